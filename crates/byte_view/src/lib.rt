@@ -3,6 +3,6 @@
 //!
 //! A view has no bytes: it tells where in its root a range lies, or that the range leaves the view.
 
-pub mod view;
+mod view;
 
 pub use view::{RangeNo, View};

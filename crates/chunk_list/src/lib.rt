@@ -4,7 +4,7 @@
 //! They tell in which list a chunk is, and in which order chunks are asked for a run.
 
 mod list;
-pub mod lists;
+mod lists;
 mod settle;
 
 pub use lists::{ChunkLists, Settled};

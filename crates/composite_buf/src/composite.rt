@@ -5,8 +5,7 @@ ghost use Rattle.pool_law.specs.Composites.{size_of, most_bytes, cut, filled, ra
 ghost use Rattle.composite_buf.specs.Maps.{Fits, byte_of, byte_at};
 ghost use Rattle.composite_buf.specs.Ends.{IsIn};
 
-use pool_law::Part;
-use pool_law::list::Items;
+use pool_law::{Items, Part};
 use std::alloc::{AllocError, Global};
 use std::marker::Model;
 

@@ -4,7 +4,7 @@
 //! A composite has no bytes: it tells in which part an index is, and where in the roots a range
 //! lies.
 
-pub mod composite;
+mod composite;
 
 pub use composite::{Composite, PartList, RangeList};
 pub use pool_law::Part;

@@ -17,7 +17,7 @@ use Rattle.frame_cutter.specs.declared.stage.Verdict.{Verdict}
 use Rattle.frame_cutter.specs.declared.stage.Verdict.TheVariants.{Whole, Refused, Fault}
 use Rattle.frame_cutter.specs.Standing.{DeskCame, HasVerdict, IsMet, IsUnderway, is_fault}
 use Rattle.frame_cutter.specs.Stops.{StopsWithin}
-use Rattle.frame_cut.specs.declared.closing.Told.{Told}
+use Rattle.frame_cut.specs.declared.closing.StreamEnd.{StreamEnd}
 use Rattle.frame_cut.specs.Outcomes.{HasTaken, IsMetAt}
 use Rattle.frame_cut.specs.Tellings.{HasTold, Tells}
 use Rattle.frame_cut.proofs.Together.{AreTogether, tells_all}
@@ -31,13 +31,14 @@ module _ {S : Type 0} (left : S → Option (List ℕ)) (faults : S → ℕ) (sho
   taken ok = record { bytes_are = came.bytes ok; faults = came.faults_are.none ok }
 
   -- a read that failed
-  pub told_fault : (told : Told) → told.verdict ≡ d.verdict → told.verdict ≡ Fault → HasTold told.verdict told block src
+  pub told_fault : (told : StreamEnd) → told.verdict ≡ d.verdict → told.verdict ≡ Fault → HasTold told.verdict told
+    block src
   told_fault told same fault =
       subst (λ v. HasTold v told block src) (sym fault)
       (came.faults_are.fault (ap is_fault (sym same ∙ fault)))
 
   -- and else none did
-  pub no_fault : (told : Told) → told.verdict ≡ d.verdict → is_fault told.verdict ≡ false
+  pub no_fault : (told : StreamEnd) → told.verdict ≡ d.verdict → is_fault told.verdict ≡ false
       → faults new ≡ faults old
   no_fault told same ok = came.faults_are.none (ap is_fault (sym same) ∙ ok)
 
@@ -53,7 +54,7 @@ module _ {S : Type 0} (left : S → Option (List ℕ)) (faults : S → ℕ) (sho
     met Stream ok is = tt
 
     -- a stream that was refused
-    pub told_refused : (told : Told) (why : FrameNo) → told.verdict ≡ d.verdict → told.verdict ≡ Refused why
+    pub told_refused : (told : StreamEnd) (why : FrameNo) → told.verdict ≡ d.verdict → told.verdict ≡ Refused why
         → HasTold told.verdict told block src
     told_refused told why same is =
         let own : d.verdict ≡ Refused why = sym same ∙ is in
@@ -70,7 +71,7 @@ module _ {S : Type 0} (left : S → Option (List ℕ)) (faults : S → ℕ) (sho
         )
 
     -- a stream of frames
-    pub told_whole : (told : Told) (ws : List Worker) (seats : List PoolSeat) (shape : Shape)
+    pub told_whole : (told : StreamEnd) (ws : List Worker) (seats : List PoolSeat) (shape : Shape)
         → AreTogether shop d ws seats → All (λ (w : Worker). w.work ≡ Done) ws
         → AreWhole shape (parts_in seats) → told.hashes.items ≡ map (λ w. w.hashes) ws → told.frames ≡ d.frames
         → told.verdict ≡ d.verdict → told.verdict ≡ Whole → HasTold told.verdict told block src
@@ -84,14 +85,14 @@ module _ {S : Type 0} (left : S → Option (List ℕ)) (faults : S → ℕ) (sho
         (came.read, (record { taken = taken ok; end = came.end ok v.0; sound = v.1 }, tells))
 
     -- by what it came to
-    pub told_of_stream : (told : Told) (ws : List Worker) (seats : List PoolSeat) (shape : Shape)
+    pub told_of_stream : (told : StreamEnd) (ws : List Worker) (seats : List PoolSeat) (shape : Shape)
         → AreTogether shop d ws seats → All (λ (w : Worker). w.work ≡ Done) ws
         → AreWhole shape (parts_in seats) → told.hashes.items ≡ map (λ w. w.hashes) ws → told.frames ≡ d.frames
         → told.verdict ≡ d.verdict → HasTold told.verdict told block src
     told_of_stream told ws seats shape all done whole hashes frames same =
         by_verdict told ws seats shape all done whole hashes frames same told.verdict refl
       where
-        by_verdict : (told : Told) (ws : List Worker) (seats : List PoolSeat) (shape : Shape)
+        by_verdict : (told : StreamEnd) (ws : List Worker) (seats : List PoolSeat) (shape : Shape)
             → AreTogether shop d ws seats → All (λ (w : Worker). w.work ≡ Done) ws
             → AreWhole shape (parts_in seats) → told.hashes.items ≡ map (λ w. w.hashes) ws
             → told.frames ≡ d.frames → told.verdict ≡ d.verdict → (v : Verdict) → told.verdict ≡ v

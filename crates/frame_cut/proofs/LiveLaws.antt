@@ -23,7 +23,7 @@ use Rattle.pool_law.specs.Logs.{Logs, entries_of, note_stands, of_lane}
 use Rattle.pool_law.specs.Mails.{fetched, gone, posted}
 use Rattle.pool_law.specs.Same.{same_object, same_root}
 use Rattle.pool_law.proofs.PatternLemmas.{same_object-refl}
-use Rattle.table_law.specs.NoteCounts.{did_fetch_of, did_post_of, view_of_root}
+use Rattle.history_laws.specs.NoteCounts.{did_fetch_of, did_post_of, view_of_root}
 use Rattle.pool_table.specs.declared.views.Entry.{Entry}
 use Rattle.pool_table.specs.declared.views.Entry.TheVariants.{At, Ref, Busy}
 use Rattle.pool_table.specs.declared.views.Part.{Part}

@@ -11,7 +11,7 @@ use Rattle.pool_law.specs.declared.note.Object.{Object}
 use Rattle.pool_law.specs.declared.note.Object.TheVariants.{Mail}
 use Rattle.pool_law.specs.declared.run.Shape.{Shape}
 use Rattle.pool_law.specs.Lives.{StandsAt}
-use Rattle.pool_law.specs.Logs.{Entry as LogEntry, Logs, of_lane}
+use Rattle.pool_law.specs.Logs.{ToldNote, Logs, of_lane}
 use Rattle.pool_law.specs.Logs as logs
 use Rattle.pool_law.specs.Mails.{fetched, posted}
 use Rattle.pool_law.specs.Naming.{noted_by}
@@ -122,7 +122,7 @@ module _ (seats : List PoolSeat) (lane : ℕ) (s : PoolSeat) (own : slice_get se
         ap (λ l. slice_get l at) (entries-at (logs_of seats) (logs_of seats) lane)
         ∙ get-map (logs.entry_of (logs_of seats)) (of_lane (logs_of seats) lane) at (note_of e)
         (stands_in at e there) in
-        let both : ◌≡◌ {A = Option LogEntry} (Some (logs.entry_of (logs_of seats) (note_of e))) (Some (entry_of e)) =
+        let both : ◌≡◌ {A = Option ToldNote} (Some (logs.entry_of (logs_of seats) (note_of e))) (Some (entry_of e)) =
         sym theirs ∙ ap (λ es. slice_get (of_lane es lane) at) whole.entries ∙ ours in
         cc both
 
@@ -131,7 +131,7 @@ module _ (seats : List PoolSeat) (lane : ℕ) (s : PoolSeat) (own : slice_get se
         → slice_get (notes_of s) at ≡ Some (At (Object.Root place) number noted)
         → (logs.entry_of (logs_of seats) (Note.At (Object.Root place) number noted.did)).root ≡ noted.root
     root_known at place number noted there =
-        ap (λ (x : LogEntry). x.root) (entry_known at (At (Object.Root place) number noted) there)
+        ap (λ (x : ToldNote). x.root) (entry_known at (At (Object.Root place) number noted) there)
 
     -- an access of the seat as one of its lane's log
     abbrev pub accesses_in : (at number : ℕ) (root : RootId) (did : Did) (noter : Option ℕ)

@@ -17,7 +17,7 @@ use Rattle.frame_cutter.specs.declared.stage.Stage.TheVariants.{Over}
 use Rattle.frame_cutter.specs.declared.stage.Verdict.{Verdict}
 use Rattle.frame_cutter.specs.declared.stage.Verdict.TheVariants.{Whole, Refused, Fault}
 use Rattle.frame_cutter.specs.Standing.{DeskCame, is_fault}
-use Rattle.frame_cut.specs.declared.closing.Told.{Told}
+use Rattle.frame_cut.specs.declared.closing.StreamEnd.{StreamEnd}
 use Rattle.frame_cut.specs.declared.openings.Opened.{Opened}
 use Rattle.frame_cut.specs.Closed.{AreSpent}
 use Rattle.frame_cut.specs.Tellings.{HasEnds, HasGot, HasTold, IsOpen, IsShopOf}
@@ -75,7 +75,7 @@ module _ {S : Type 0} (left : S → Option (List ℕ)) (faults : S → ℕ) (sho
       run_spent =
           follows ended (λ f. all_spent shop d ws seats all came.read came.stands f.0 f.1) finished
 
-      module _ (shape : Shape) (told : Told) (hashes : told.hashes.items ≡ map (λ w. w.hashes) ws)
+      module _ (shape : Shape) (told : StreamEnd) (hashes : told.hashes.items ≡ map (λ w. w.hashes) ws)
           (verdict : (told.verdict ≡ d.verdict) × (told.frames ≡ d.frames)) where
         -- where the pool was closed
         told_closed : (r : Result A E) → OnOk r ((d.stage ≡ Over) × All (λ (w : Worker). w.work ≡ Done) ws)
@@ -95,15 +95,16 @@ module _ {S : Type 0} (left : S → Option (List ℕ)) (faults : S → ℕ) (sho
             (faulty told.verdict sound)
 
         -- what is answered
-        pub run_told : {B F G : Type 0} (closed : Result B F) (answer : Result Told G) → OnOk closed (OnErr ended ⊥)
+        pub run_told : {B F G : Type 0} (closed : Result B F) (answer : Result StreamEnd G) → OnOk closed (OnErr ended
+          ⊥)
             → OnOk closed (AreWhole shape (parts_in seats)) → IfOk answer (λ a. a ≡ told)
             → OnOk answer (is_fault told.verdict ≡ false → OnErr closed ⊥)
             → IfOk answer (λ a. HasTold a.verdict a block src)
         run_told closed (Ok a) well whole is sound =
-            subst (λ (t : Told). HasTold t.verdict t block src) (sym is) (told_by closed well whole sound)
+            subst (λ (t : StreamEnd). HasTold t.verdict t block src) (sym is) (told_by closed well whole sound)
         run_told closed (Err e) well whole is sound = tt
 
-        pub run_none : {G : Type 0} (answer : Result Told G) → OnErr answer (is_fault told.verdict ≡ false)
+        pub run_none : {G : Type 0} (answer : Result StreamEnd G) → OnErr answer (is_fault told.verdict ≡ false)
             → OnErr answer (faults new ≡ faults old)
         run_none (Ok a) none = tt
         run_none (Err e) none = no_fault left faults shop old new o.desk d came block opened.long told verdict.0 none

@@ -25,7 +25,7 @@ use Rattle.frame_cutter.specs.declared.stage.Stage.TheVariants.{Over}
 use Rattle.frame_cutter.specs.declared.stage.Verdict.TheVariants.{Whole}
 use Rattle.frame_cutter.specs.Standing.{DeskStands, HasVerdict, IsUnderway}
 use Rattle.frame_cutter.proofs.FewFrames.{few_frames}
-use Rattle.frame_cut.specs.declared.closing.Told.{Told}
+use Rattle.frame_cut.specs.declared.closing.StreamEnd.{StreamEnd}
 use Rattle.frame_cut.specs.Tellings.{HasGot, Tells}
 use Rattle.frame_cut.proofs.Running.{desk_done, worker_done}
 use Rattle.frame_cut.proofs.SeatLogs.{notes_of}
@@ -123,7 +123,8 @@ module _ (shop : Shop) (d : Desk) (ws : List Worker) (seats : List PoolSeat)
           all_tell shop d read desk over k w (omega (arith, within, all.many)) (all.stand k w e) (done_there k w e)
           (all.joins k w e) shape seats whole cutter_seat others_write (seat_of k w e)
 
-      module _ (told : Told) (hashes : told.hashes.items ≡ map (λ w. w.hashes) ws) (frames : told.frames ≡ d.frames)
+      module _ (told : StreamEnd) (hashes : told.hashes.items ≡ map (λ w. w.hashes) ws) (frames : told.frames ≡
+        d.frames)
           (sound : d.verdict ≡ Whole) where
         verdict : HasVerdict Whole d read desk.handed
         verdict =

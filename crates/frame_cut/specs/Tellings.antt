@@ -16,13 +16,13 @@ use Rattle.frame_hash.specs.Standing.{WorkerStands}
 use Rattle.frame_cutter.specs.declared.stage.Verdict.{Verdict}
 use Rattle.frame_cutter.specs.declared.stage.Verdict.TheVariants.{Whole, Refused, Fault}
 use Rattle.frame_cutter.specs.Standing.{DeskStands}
-use Rattle.frame_cut.specs.declared.closing.Told.{Told}
+use Rattle.frame_cut.specs.declared.closing.StreamEnd.{StreamEnd}
 use Rattle.frame_cut.specs.declared.openings.Opened.{Opened}
 use Rattle.frame_cut.specs.Outcomes.{IsRefused, IsWhole}
 
 -- of so many workers, frame k was told of by worker k modulo their number, behind all frames before
 -- it that went to this worker
-pub record Tells (told : Told) (frames : List (List ℕ)) : Type 0 where
+pub record Tells (told : StreamEnd) (frames : List (List ℕ)) : Type 0 where
   pub some : 0 < length told.hashes.items
   pub many : told.frames ≡ length frames
   pub few : length frames ≤ 65536
@@ -33,7 +33,7 @@ pub record Tells (told : Told) (frames : List (List ℕ)) : Type 0 where
 
 -- what the stream, read in blocks of so many bytes, came to, and of a stream of frames what was told
 -- of them
-abbrev pub HasTold : Verdict → Told → ℕ → SourceSpan → Type 0
+abbrev pub HasTold : Verdict → StreamEnd → ℕ → SourceSpan → Type 0
 HasTold Whole told block src = (bytes : List ℕ) × (IsWhole src bytes × Tells told (frames_of bytes))
 HasTold (Refused why) told block src = (bytes : List ℕ) × IsRefused block src bytes why
 HasTold Fault told block src = Rose src.faults src.faults_then

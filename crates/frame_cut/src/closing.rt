@@ -16,7 +16,7 @@ use std::sync::Wait;
 
 /// What a stream came to, and what each worker told of its frames.
 #[derive(Drop)]
-pub struct Told {
+pub struct StreamEnd {
     pub verdict: Verdict,
     pub frames: u32,
     pub hashes: Vec<Vec<HashOf>>,
@@ -30,7 +30,7 @@ pub fn gather(
     desk: Desk,
     seats: &mut Vec<PoolSeat>,
     mut hashes: Vec<Vec<HashOf>>,
-) -> Told
+) -> StreamEnd
     requires many { vec_len workers ≡ length queues.now }
     requires ends { (k : ℕ) (w : Worker) → slice_get workers.items k ≡ Some w →
         HasEnds queues.now desk.ends.items k w.jobs }
@@ -66,7 +66,7 @@ pub fn gather(
     }
     workers.destroy_empty();
     seats.push_reserved(own);
-    Told {
+    StreamEnd {
         verdict,
         frames,
         hashes,

@@ -15,7 +15,7 @@ ghost use Rattle.frame_cutter.specs.Standing.{DeskCame, DeskStands, is_fault};
 ghost use Rattle.frame_cut.specs.Closed.{AreSpent, NoneIsLive};
 ghost use Rattle.frame_cut.specs.Tellings.{HasTold};
 
-use crate::closing::{Told, close, gather};
+use crate::closing::{StreamEnd, close, gather};
 use crate::openings::{Opened, open};
 use frame_cutter::{Cutting, Desk, Verdict};
 use frame_hash::{Shop, Worker};
@@ -34,7 +34,7 @@ pub fn hash_stream<R: Threads + Wait + Sync, S: Source>(
     alloc: Global,
     options: CutOptions,
     source: &mut S,
-) -> Result<Told, AllocError>
+) -> Result<StreamEnd, AllocError>
     requires { AreOptions options }
     ensures told { IfOk result (λ told. HasTold told.verdict told options.block
         (source_span S.left S.faults source.old source.new)) }
@@ -112,7 +112,7 @@ fn close_or_abandon<W: Wait>(
 }
 
 // What was told, where the pool was closed or a read failed.
-fn told_or_none(told: Told, closed: Result<(), AllocError>) -> Result<Told, AllocError>
+fn told_or_none(told: StreamEnd, closed: Result<(), AllocError>) -> Result<StreamEnd, AllocError>
     ensures told { IfOk result (λ answer. answer ≡ told) }
     ensures closed { OnOk result (is_fault told.verdict ≡ false → OnErr closed ⊥) }
     ensures none { OnErr result (is_fault told.verdict ≡ false) }

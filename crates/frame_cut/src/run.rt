@@ -9,7 +9,7 @@ ghost use Rattle.frame_cut.specs.Outcomes.{Completes, Explains, ExplainsStream, 
 ghost use Rattle.frame_cut.specs.Tellings.{HasTold, Tells};
 
 use crate::answer::{Outcome, Status};
-use crate::closing::Told;
+use crate::closing::StreamEnd;
 use crate::hashing::hash_stream;
 use crate::text::text_of;
 use frame_cutter::Verdict;
@@ -91,7 +91,7 @@ fn with_options<R: Threads + Wait + Sync, S: Source, K: Sink>(
 }
 
 #[tactic(auto, unfolding(crate::specs::Outcomes::ExplainsStream))]
-fn with_told<K: Sink>(alloc: Global, told: &Told, out: &mut K) -> Outcome
+fn with_told<K: Sink>(alloc: Global, told: &StreamEnd, out: &mut K) -> Outcome
     requires { (block : ℕ) × ((src : SourceSpan)
         × HasTold told.now.verdict told.now block src) }
     ensures { (block : ℕ) (src : SourceSpan) → HasTold told.now.verdict told.now block src →
@@ -106,7 +106,7 @@ fn with_told<K: Sink>(alloc: Global, told: &Told, out: &mut K) -> Outcome
 }
 
 #[tactic(auto, unfolding(crate::specs::Outcomes::ExplainsStream))]
-fn with_frames<K: Sink>(alloc: Global, told: &Told, out: &mut K) -> Outcome
+fn with_frames<K: Sink>(alloc: Global, told: &StreamEnd, out: &mut K) -> Outcome
     requires { (bytes : List ℕ) × Tells told.now (frames_of bytes) }
     ensures { (block : ℕ) (src : SourceSpan) (bytes : List ℕ) → IsWhole src bytes →
         Tells told.now (frames_of bytes) → ExplainsStream result.status result block src

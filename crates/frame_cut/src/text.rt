@@ -5,7 +5,7 @@ ghost use Rattle.frame_hash.specs.Hashes.{hash_of};
 ghost use Rattle.frame_text.specs.Lines.{text_of};
 ghost use Rattle.frame_cut.specs.Tellings.{Tells};
 
-use crate::closing::Told;
+use crate::closing::StreamEnd;
 use frame_hash::FrameHash;
 use frame_text::{write_end, write_frame};
 use pool_law::Bytes;
@@ -14,7 +14,7 @@ use std::alloc::{AllocError, Global};
 
 /// A line for each frame, in order, and the last line. Frame `k` was told of by worker `k` modulo
 /// their number.
-pub fn text_of(alloc: Global, told: &Told) -> Result<Bytes, AllocError>
+pub fn text_of(alloc: Global, told: &StreamEnd) -> Result<Bytes, AllocError>
     requires { (frames : List (List ℕ)) × Tells told.now frames }
     ensures { IfOk result (λ text. (frames : List (List ℕ)) → Tells told.now frames →
         text ≡ text_of frames) }
@@ -29,7 +29,7 @@ pub fn text_of(alloc: Global, told: &Told) -> Result<Bytes, AllocError>
 }
 
 // What was told of the frame of this number.
-fn hash_at(told: &Told, number: usize) -> &FrameHash
+fn hash_at(told: &StreamEnd, number: usize) -> &FrameHash
     requires { (frames : List (List ℕ)) × (Tells told.now frames × (number < length frames)) }
     ensures { (frames : List (List ℕ)) → Tells told.now frames →
         slice_get (map hash_of frames) number ≡ Some result.now }

@@ -9,7 +9,7 @@ use Rattle.pool_law.specs.declared.note.Object.TheVariants.{Mail}
 use Rattle.pool_law.specs.Kinds.{Passing, Stays, Goes, Comes, passing}
 use Rattle.pool_law.specs.Mails.{gone, posted}
 use Rattle.pool_law.specs.Same.{same_object}
-use Rattle.table_law.specs.NoteCounts.{one_if_so}
+use Rattle.history_laws.specs.NoteCounts.{one_if_so}
 use Rattle.pool_table.specs.declared.views.Entry.{Entry}
 use Rattle.pool_table.specs.declared.views.Entry.TheVariants.{At, Ref, Busy}
 use Rattle.pool_table.specs.Letters.{is_on_way, letter_in, letter_weight, sent_as, sent_on}

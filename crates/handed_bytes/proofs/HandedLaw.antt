@@ -23,7 +23,7 @@ use Rattle.run_laws.proofs.Numbered.{in-history, in-log}
 use Rattle.run_laws.proofs.Placed.{step-at, is-some}
 use Rattle.run_laws.proofs.Totals.{dids-at, dids-there}
 use Rattle.run_laws.proofs.Written.{got-there}
-use Rattle.arena_law.proofs.ReturnLaw.{after-append}
+use Rattle.arena_laws.proofs.ReturnLaw.{after-append}
 use Rattle.run_order.specs.HandOver.{IsHandedOver}
 use Rattle.run_order.specs.Order.{InOneOrder}
 use Rattle.run_order.proofs.Fronts.{split-at, get-behind}

@@ -1,8 +1,8 @@
 #![tactic(auto)]
 //! The handles of a lane's root places, and the bin that recycles them.
 
-pub mod bin;
-pub mod handle;
+mod bin;
+mod handle;
 mod lending;
 mod told;
 

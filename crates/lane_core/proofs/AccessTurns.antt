@@ -11,7 +11,7 @@ use Rattle.pool_law.specs.declared.note.Object.TheVariants.{Root}
 use Rattle.pool_law.specs.declared.run.Reply.{Reply}
 use Rattle.pool_law.specs.declared.run.Shape.{Shape}
 use Rattle.pool_law.specs.Naming.{noted_by}
-use Rattle.pool_law.specs.Logs.{Entry as LawEntry}
+use Rattle.pool_law.specs.Logs.{ToldNote}
 use Rattle.pool_law.proofs.CompositeLemmas.{same_bytes-refl}
 use Rattle.pool_law.specs.Dids as says
 use Rattle.pool_law.specs.LaneLaw.{sweep_period, before_stop}
@@ -207,7 +207,7 @@ pub touch_turn : (pool : SharedPool) (name : ℕ) (old start mid new : Context)
     → HasTurned pool old new s (Command.Touch name) Ready (Went Ready)
 touch_turn pool name old start mid new may start_is same seat v bound lt number made noted replied s state =
     let lane : Option ℕ = (view_of old.seat).own.number in let shape : Shape = old.shape in let m = lane_of old.seat in
-    let e : LawEntry = entry_of (access_entry v.root number lane Did.Touch) in
+    let e : ToldNote = entry_of (access_entry v.root number lane Did.Touch) in
     let touches : Reader Answer = accesses v.root says.touch >> give (answer Reply.Ok s.names) in
     let is : IsAccessDid v.root number lane Did.Touch = touch_is v.root number lane in
     let names_are : mid.names ≡ old.names = access_names pool old start mid new may.context may.asked start_is same seat
@@ -256,7 +256,7 @@ module _ (name : ℕ) (old : Context) (v : ViewData) (bound : bound_at old.names
 -- ---- Sets and gets.
 
 -- a note at the place is no mark
-tries_on : (tries : Bool) (s : LaneState) (v : ViewData) (r : Reader Answer) (e : LawEntry) (place number : ℕ)
+tries_on : (tries : Bool) (s : LaneState) (v : ViewData) (r : Reader Answer) (e : ToldNote) (place number : ℕ)
     (did : Did) → e.note ≡ Note.At (Root place) number did → (a : Answer) → ReadsOn r (e ∷ []) none_asked (give a)
     → ReadsOn (tries_or tries s v r) (e ∷ []) none_asked (give a)
 tries_on false s v r e place number did is a on = on
@@ -271,7 +271,7 @@ module _ (s : LaneState) (bound : Names) (reach : Reach) (number : ℕ) (lane : 
       ReadsOn (tries_or reach.tries s reach.after.at (reads_set bound reach bytes)) (e ∷ []) none_asked
       (give (answer Reply.Ok bound))
   read_set bytes =
-      let did = Did.Set reach.offset bytes in let e : LawEntry = entry_of (access_entry reach.root number lane did) in
+      let did = Did.Set reach.offset bytes in let e : ToldNote = entry_of (access_entry reach.root number lane did) in
       let so : says.set reach.offset bytes did ≡ Some tt = rw (same_number reach.offset, same_bytes-refl bytes) refl in
       tries_on reach.tries s reach.after.at (reads_set bound reach bytes) e reach.root.place number did refl
       (answer Reply.Ok bound)
@@ -284,7 +284,7 @@ module _ (s : LaneState) (bound : Names) (reach : Reach) (number : ℕ) (lane : 
       ReadsOn (tries_or reach.tries s reach.after.at (reads_get bound reach len)) (e ∷ []) none_asked
       (give (answer (Reply.OkBytes bytes) bound))
   read_get bytes len is =
-      let did = Did.Get reach.offset bytes in let e : LawEntry = entry_of (access_entry reach.root number lane did) in
+      let did = Did.Get reach.offset bytes in let e : ToldNote = entry_of (access_entry reach.root number lane did) in
       let so : says.get reach.offset len did ≡ Some bytes =
       rw (same_number reach.offset, eq-eqb (length bytes) len is) refl in
       tries_on reach.tries s reach.after.at (reads_get bound reach len) e reach.root.place number did refl
@@ -298,7 +298,7 @@ pub read_busy : (s : LaneState) (v : ViewData) (held : Held) (going : Reader Ans
     → ReadsOn (tries_or true s v going) (entry_of (Busy held) ∷ []) none_asked
     (give (answer (Reply.Busy held.number) s.names))
 read_busy s v held going at =
-    let e : LawEntry = entry_of (Busy held) in
+    let e : ToldNote = entry_of (Busy held) in
     first_on (busy (Root v.root.place) >>= (λ n. give (answer (Reply.Busy n) s.names))) going (e ∷ []) none_asked
     (answer (Reply.Busy held.number) s.names)
     (given_on (busy (Root v.root.place)) (e ∷ []) none_asked (λ n. give (answer (Reply.Busy n) s.names)) held.number

@@ -5,7 +5,7 @@ use Rattle.pool_law.specs.declared.command.Command.{Command}
 use Rattle.pool_law.specs.declared.note.Object.{Object}
 use Rattle.pool_law.specs.LaneStates.{log_at, new_lane}
 use Rattle.pool_law.specs.Patterns.{closing}
-use Rattle.pool_law.specs.Readers.{Entries}
+use Rattle.pool_law.specs.Readers.{ToldNotes}
 use Rattle.shared_pool.specs.declared.pool.SharedPool.{SharedPool}
 use Rattle.lane_core.specs.declared.context.Context.{Context}
 use Rattle.lane_core.specs.declared.context.Stage.TheVariants.{Ready, Closing}
@@ -59,7 +59,7 @@ module _ (pool : SharedPool) (l : Lane) (was : IsContext pool (hand_of l.stage) 
   )
     where
       -- entries that are read from the stage on
-      way : (later : Entries) × IsSome (draining.rest_of Close (number_of l) stage
+      way : (later : ToldNotes) × IsSome (draining.rest_of Close (number_of l) stage
           (behind (log_at new_lane later) (entries_since l) none_asked))
       way = way_read (draining.rest_of Close (number_of l) stage) (drain_from Close (number_of l) stage)
           (entries_since l) 0

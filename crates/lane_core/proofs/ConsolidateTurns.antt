@@ -16,7 +16,7 @@ use Rattle.pool_law.specs.LaneLaw.{sweep_period, before_stop}
 use Rattle.pool_law.specs.LaneStates.{LaneState}
 use Rattle.pool_law.specs.Lanes.{Answer, composed, copied_to, copy_parts, release_parts}
 use Rattle.pool_law.specs.Patterns.{New as LawNew}
-use Rattle.pool_law.specs.Readers.{Entries, Log, Reader, ◌>>=◌, ◌>>◌, give}
+use Rattle.pool_law.specs.Readers.{ToldNotes, Log, Reader, ◌>>=◌, ◌>>◌, give}
 use Rattle.pool_table.specs.declared.views.Entry.{Entry}
 use Rattle.pool_table.specs.declared.views.SeatView.{SeatView}
 use Rattle.pool_table.specs.Counts.{HasCount}
@@ -303,7 +303,7 @@ module _ (pool : SharedPool) (old mid : Context) (p : Consolidation) (stage : Al
       abbrev follows : Reader Answer
       follows = made_by (Ok (record { root = root; region = region })) >>= composes >>= swept lane
 
-      made_reads : (rest_of : Entries) → reads_of (Consolidating p stage) (log_of old (map entry_of es ++ rest_of))
+      made_reads : (rest_of : ToldNotes) → reads_of (Consolidating p stage) (log_of old (map entry_of es ++ rest_of))
           ≡ follows (log_of made rest_of)
       made_reads =
           reads_at old made (map entry_of es) asks (entries_more old made es did.wrote.more.notes) refl

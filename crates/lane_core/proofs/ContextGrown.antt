@@ -11,7 +11,7 @@ use Rattle.pool_law.specs.LaneLaw.{sweep_period, before_stop}
 use Rattle.pool_law.specs.LaneStates.{LaneState}
 use Rattle.pool_law.specs.Lanes.{Answer, answer}
 use Rattle.pool_law.specs.Names.{Names, Bound}
-use Rattle.pool_law.specs.Readers.{Entries, Reader, ◌>>=◌, give}
+use Rattle.pool_law.specs.Readers.{ToldNotes, Reader, ◌>>=◌, give}
 use Rattle.leak_records.specs.Records.{new_sampler}
 use Rattle.pool_table.specs.declared.views.Entry.{Entry}
 use Rattle.shared_pool.specs.SeatViews.{view_of}
@@ -231,7 +231,7 @@ module _ (pool : SharedPool) (hand after : Hand) (old start mid : Context) (d : 
         → before_stop (reply ∷ []) ≡ 1 → start.asked < sweep_period →
         SpendsAt old answered_context (left_now old.composes command stage (view_of old.seat))
         (with_sheds (view_of start.seat) (notes_alone 0)) →
-        ((rest : Entries) → reads_from old.shape (lane_of old.seat) s command stage
+        ((rest : ToldNotes) → reads_from old.shape (lane_of old.seat) s command stage
         (log_of old (map entry_of added ++ rest)) ≡ Some (answer reply bound, log_of answered_context rest))
         → HasTurned pool old new s command stage (Went Ready)
     answered empty recounts places sampled rebound s command stage bound are unstopped low spent_all reads =
@@ -265,7 +265,7 @@ module _ (pool : SharedPool) (hand after : Hand) (old start mid : Context) (d : 
     -- what the law reads of the entries, up to the answer
     pub answer_reads : (asks : ℕ → ℕ) → start.asked ≡ asks old.asked → (before : Reader Answer) (bound : Names)
         → ReadsOn before (map entry_of added) asks (give (answer reply bound)) →
-        (rest : Entries) → before (log_of old (map entry_of added ++ rest))
+        (rest : ToldNotes) → before (log_of old (map entry_of added ++ rest))
         ≡ Some (answer reply bound, log_of answered_context rest)
     answer_reads asks asked before bound reads =
         reads_at old answered_context (map entry_of added) asks
@@ -275,7 +275,7 @@ module _ (pool : SharedPool) (hand after : Hand) (old start mid : Context) (d : 
     -- and where no sweep is due behind it
     pub swept_reads : (asks : ℕ → ℕ) → start.asked ≡ asks old.asked → start.asked < sweep_period
         → (body : Reader Answer) (bound : Names) → ReadsOn body (map entry_of added) asks (give (answer reply bound)) →
-        (rest : Entries) → (body >>= swept (lane_of old.seat)) (log_of old (map entry_of added ++ rest))
+        (rest : ToldNotes) → (body >>= swept (lane_of old.seat)) (log_of old (map entry_of added ++ rest))
         ≡ Some (answer reply bound, log_of answered_context rest)
     swept_reads asks asked low body bound reads rest =
         reads_at old answered_context (map entry_of added) asks

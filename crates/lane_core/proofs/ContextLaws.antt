@@ -3,7 +3,7 @@ use Rattle.std.proofs.Common.{◌≡◌, ℕ, ◌+◌, ◌<◌, ◌≤◌, List,
 use Rattle.std.specs.Prelude.{vec_capacity}
 use Rattle.std.proofs.lemmas.List.{map-append, length-map}
 use Rattle.pool_law.specs.declared.note.Note.{Note}
-use Rattle.pool_law.specs.Readers.{Entries, Reader}
+use Rattle.pool_law.specs.Readers.{ToldNotes, Reader}
 use Rattle.leak_records.specs.Records.{Sampling}
 use Rattle.shared_pool.specs.declared.seat.PoolSeat.{PoolSeat}
 use Rattle.pool_table.specs.declared.views.Entry.{Entry}
@@ -109,9 +109,9 @@ pub entries_more : (old new : Context) (added : List Entry) → notes_of new ≡
 entries_more old new added more = ap (map entry_of) more ∙ map-append entry_of (notes_of old) added
 
 -- what is read over them goes from the one desk's log to the other's
-pub reads_at : (old new : Context) (es : Entries) (asks : ℕ → ℕ) → entries_of new ≡ entries_of old ++ es
+pub reads_at : (old new : Context) (es : ToldNotes) (asks : ℕ → ℕ) → entries_of new ≡ entries_of old ++ es
     → new.asked ≡ asks old.asked → {A : Type 0} (before after : Reader A) → ReadsOn before es asks after →
-    (rest : Entries) → before (log_of old (es ++ rest)) ≡ after (log_of new rest)
+    (rest : ToldNotes) → before (log_of old (es ++ rest)) ≡ after (log_of new rest)
 reads_at old new es asks more asked before after on rest =
     on (log_of old rest) ∙ (λ i. after (record { seen = sym more i; asked = sym asked i; left = rest }))
 

@@ -9,7 +9,7 @@ use Rattle.pool_law.specs.Composites.{Composite}
 use Rattle.pool_law.specs.LaneLaw.{sweep_period}
 use Rattle.pool_law.specs.LaneStates.{LaneState}
 use Rattle.pool_law.specs.Lanes.{Answer, composed, release_parts}
-use Rattle.pool_law.specs.Readers.{Entries, Log, Reader, ◌>>=◌, ◌>>◌, give}
+use Rattle.pool_law.specs.Readers.{ToldNotes, Log, Reader, ◌>>=◌, ◌>>◌, give}
 use Rattle.pool_table.specs.declared.views.SeatView.{SeatView}
 use Rattle.shared_pool.specs.SeatViews.{view_of}
 use Rattle.shared_pool.specs.declared.pool.SharedPool.{SharedPool}
@@ -97,7 +97,7 @@ module _ (pool : SharedPool) (old mid : Context) (stage : CopyStage) (d : IsCont
       sampled = wrote.sampled;
     }
 
-    copied_read : (rest : Entries) → copying.rest_of stage (log_of old (map entry_of wrote.added ++ rest))
+    copied_read : (rest : ToldNotes) → copying.rest_of stage (log_of old (map entry_of wrote.added ++ rest))
         ≡ copying.rest_after result (log_of (between old mid) rest)
     copied_read =
         moved_read pool empty_hand empty_hand old mid wrote.added copied_so (copying.rest_of stage)

@@ -11,7 +11,7 @@ use Rattle.pool_law.specs.declared.note.Note.{Note}
 use Rattle.pool_law.specs.declared.note.Object.{Object}
 use Rattle.pool_law.specs.declared.note.Object.TheVariants.{Root}
 use Rattle.pool_law.specs.Lanes.{set_parts, get_parts}
-use Rattle.pool_law.specs.Logs.{Entry as LawEntry}
+use Rattle.pool_law.specs.Logs.{ToldNote}
 use Rattle.pool_law.specs.Readers.{Reader, ◌>>=◌, ◌>>◌, give}
 use Rattle.pool_law.proofs.PatternLemmas.{same_root-refl}
 use Rattle.shared_pool.specs.declared.seat.PoolSeat.{PoolSeat}
@@ -132,7 +132,7 @@ module _ (pool : SharedPool) (old new : PoolSeat) (is : IsPoolSeat pool new)
     abbrev set_did : Did
     set_did = Did.Set first.part.offset first.bytes.items
 
-    abbrev set_entry : LawEntry
+    abbrev set_entry : ToldNote
     set_entry = entry_of (part_entry pool old new may.seat_is is set_root number set_did noted)
 
     set_within : IsWithin v first
@@ -199,7 +199,7 @@ module _ (pool : SharedPool) (old new : PoolSeat) (is : IsPoolSeat pool new)
     abbrev get_did : Did
     get_did = Did.Get first.part.offset bytes
 
-    abbrev get_entry : LawEntry
+    abbrev get_entry : ToldNote
     get_entry = entry_of (part_entry pool old new may.seat_is is get_root number get_did noted)
 
     get_within : IsWithin v first

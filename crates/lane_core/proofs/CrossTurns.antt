@@ -11,7 +11,7 @@ use Rattle.pool_law.specs.LaneLaw.{sweep_period, before_stop}
 use Rattle.pool_law.specs.LaneStates.{LaneState}
 use Rattle.pool_law.specs.Lanes.{Answer, answer}
 use Rattle.pool_law.specs.Names.{Bound, Names}
-use Rattle.pool_law.specs.Readers.{Entries, Log, Reader, ◌>>=◌, give}
+use Rattle.pool_law.specs.Readers.{ToldNotes, Log, Reader, ◌>>=◌, give}
 use Rattle.shared_pool.specs.SeatViews.{view_of}
 use Rattle.shared_pool.specs.declared.pool.SharedPool.{SharedPool}
 use Rattle.shared_pool.specs.Closing.{entry_of}
@@ -136,7 +136,7 @@ module _ (pool : SharedPool) (old mid : Context) (stage : CrossStage) (d : IsCon
       sampled = wrote.sampled;
     }
 
-    crossed_read : (rest : Entries) → crossing.rest_of stage (log_of old (map entry_of wrote.added ++ rest))
+    crossed_read : (rest : ToldNotes) → crossing.rest_of stage (log_of old (map entry_of wrote.added ++ rest))
         ≡ crossing.rest_after result (log_of (between old mid) rest)
     crossed_read =
         moved_read pool empty_hand empty_hand old mid wrote.added crossed_so (crossing.rest_of stage)

@@ -11,7 +11,7 @@ use Rattle.pool_law.specs.declared.note.Object.{Object}
 use Rattle.pool_law.specs.declared.note.Object.TheVariants.{Arena, Cache}
 use Rattle.pool_law.specs.Limits.{cached_classes}
 use Rattle.leak_records.specs.Records.{Sampling}
-use Rattle.table_law.specs.NoteCounts.{one_if_so}
+use Rattle.history_laws.specs.NoteCounts.{one_if_so}
 use Rattle.pool_law.specs.Naming.{noted_by}
 use Rattle.pool_table.specs.declared.views.Entry.{Entry}
 use Rattle.pool_table.specs.declared.views.Entry.TheVariants.{At}

@@ -9,8 +9,8 @@ use Rattle.pool_law.specs.declared.note.Object.{Object}
 use Rattle.pool_law.specs.declared.note.RefDid.{RefDid}
 use Rattle.pool_law.specs.declared.note.RefDid.TheVariants.{Retain, Kept, Ended, Look}
 use Rattle.pool_law.specs.Counts.{root_is, ref_needs, note_gains, note_loses, note_needs, needs_count, ends_root, count_step, count_from, CountsHold}
-use Rattle.pool_law.specs.Readers.{Entries}
-use Rattle.pool_law.specs.Logs.{Entry as LawEntry}
+use Rattle.pool_law.specs.Readers.{ToldNotes}
+use Rattle.pool_law.specs.Logs.{ToldNote}
 use Rattle.pool_law.specs.Same.{same_root}
 use Rattle.pool_law.proofs.SameLemmas.{same_root-is}
 use Rattle.pool_table.specs.declared.views.Entry.TheVariants.{Ref}
@@ -19,22 +19,22 @@ use Rattle.lane_core.specs.declared.counts.Counted.{Counted}
 use Rattle.seat_work.specs.Changes.{one_for}
 use Rattle.lane_core.specs.Counting.{counted, CountsAre}
 
-pub counts_append : (root : RootId) (k : ℕ) (xs ys : Entries)
+pub counts_append : (root : RootId) (k : ℕ) (xs ys : ToldNotes)
     → count_from root k (xs ++ ys) ≡ count_from root (count_from root k xs) ys
 counts_append root k [] ys = refl
 counts_append root k (x ∷ xs) ys = counts_append root (count_step root k x) xs ys
 
-pub holds_append : (root : RootId) (k : ℕ) (xs ys : Entries) → CountsHold root k xs
+pub holds_append : (root : RootId) (k : ℕ) (xs ys : ToldNotes) → CountsHold root k xs
     → CountsHold root (count_from root k xs) ys → CountsHold root k (xs ++ ys)
 holds_append root k [] ys a b = b
 holds_append root k (x ∷ xs) ys a b = (a.0, (a.1.0, holds_append root (count_step root k x) xs ys a.1.1 b))
 
 -- the entries make the one counts of the other, and use no root that isn't counted
-pub record Recounts (cs ds : List Counted) (es : Entries) : Type 0 where
+pub record Recounts (cs ds : List Counted) (es : ToldNotes) : Type 0 where
   pub counts : (root : RootId) → count_from root (counted cs root) es ≡ counted ds root
   pub holds : (root : RootId) → CountsHold root (counted cs root) es
 
-pub recounted : (cs ds : List Counted) (log es : Entries) → CountsAre cs log → Recounts cs ds es
+pub recounted : (cs ds : List Counted) (log es : ToldNotes) → CountsAre cs log → Recounts cs ds es
     → CountsAre ds (log ++ es)
 recounted cs ds log es are more = record {
   counts =
@@ -49,7 +49,7 @@ none_recounted cs = record { counts = λ root. refl; holds = λ root. tt }
 
 -- ---- One entry.
 
-one_entry : (cs ds : List Counted) (e : LawEntry) → ((root : RootId) → needs_count root e ≡ true → 0 < counted cs root)
+one_entry : (cs ds : List Counted) (e : ToldNote) → ((root : RootId) → needs_count root e ≡ true → 0 < counted cs root)
     → ((root : RootId) → ends_root root e.note ≡ true → count_step root (counted cs root) e ≡ 0)
     → ((root : RootId) → count_step root (counted cs root) e ≡ counted ds root) → Recounts cs ds (e ∷ [])
 one_entry cs ds e needs ends step = record { counts = step; holds = λ root. (needs root, (ends root, tt)) }
@@ -61,7 +61,7 @@ pub record IsStill (note : Note) : Type 0 where
   pub needs : (root : RootId) → note_needs root note ≡ false
   pub ends : (root : RootId) → ends_root root note ≡ false
 
-pub still : (cs : List Counted) (e : LawEntry) → IsStill e.note
+pub still : (cs : List Counted) (e : ToldNote) → IsStill e.note
     → ((root : RootId) → root_is root e.root ≡ true → 0 < counted cs root) → Recounts cs cs (e ∷ [])
 still cs e is uses = one_entry cs cs e
     (λ root needs. uses root (ap (λ (b : Bool). b || root_is root e.root) (sym (is.needs root)) ∙ needs))

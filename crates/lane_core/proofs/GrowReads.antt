@@ -12,7 +12,7 @@ use Rattle.pool_law.specs.declared.run.Reply.{Reply}
 use Rattle.pool_law.specs.declared.run.Shape.{Shape}
 use Rattle.pool_law.specs.Dids as says
 use Rattle.pool_law.specs.Limits.{geometry_of}
-use Rattle.pool_law.specs.Logs.{Entry}
+use Rattle.pool_law.specs.Logs.{ToldNote}
 use Rattle.pool_law.specs.Counts.{root_is}
 use Rattle.pool_law.specs.Options.{check}
 use Rattle.pool_law.specs.Patterns.{Grown, found_room, grow_with, grown, obtain, one_more, put_away, regrow}
@@ -29,7 +29,7 @@ too_few a b lt = grind (arith, nat_tests)
 
 -- ---- What the root answers.
 
-module _ (root : RootId) (size n : ℕ) (e : Entry) (here : root_is root e.root ≡ true) where
+module _ (root : RootId) (size n : ℕ) (e : ToldNote) (here : root_is root e.root ≡ true) where
   abbrev extends : Reader ℕ
   extends = access root (says.extend size) >> give size
 
@@ -55,7 +55,7 @@ module _ (root : RootId) (size n : ℕ) (e : Entry) (here : root_is root e.root 
 
 -- ---- The root is asked first.
 
-module _ (shape : Shape) (lane class size n : ℕ) (root : RootId) (e : Entry) (here : root_is root e.root ≡ true)
+module _ (shape : Shape) (lane class size n : ℕ) (root : RootId) (e : ToldNote) (here : root_is root e.root ≡ true)
     (class_is : class_of (geometry_of shape) size ≡ Some class) where
   abbrev obtaining : ℕ → Reader (Result ℕ Reply)
   obtaining c = obtain shape lane c >>= grow_with root size
@@ -93,7 +93,7 @@ module _ (shape : Shape) (lane class size n : ℕ) (root : RootId) (e : Entry) (
 
 -- ---- The root is asked again, with a region.
 
-module _ (size n : ℕ) (root : RootId) (r : RegionId) (e : Entry) (here : root_is root e.root ≡ true) where
+module _ (size n : ℕ) (root : RootId) (r : RegionId) (e : ToldNote) (here : root_is root e.root ≡ true) where
   -- the root grows into the region, or has so much without it
   abbrev moves : Reader Grown
   moves = growth root size (one_more r) >>= (λ left. give (record { capacity = size; spare = left }))

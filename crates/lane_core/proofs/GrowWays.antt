@@ -10,9 +10,9 @@ use Rattle.pool_law.specs.declared.note.Object.TheVariants.{Root}
 use Rattle.pool_law.specs.declared.run.Reply.{Reply}
 use Rattle.pool_law.specs.declared.run.Shape.{Shape}
 use Rattle.pool_law.specs.Limits.{geometry_of}
-use Rattle.pool_law.specs.Logs.{Entry}
+use Rattle.pool_law.specs.Logs.{ToldNote}
 use Rattle.pool_law.specs.Patterns.{ask_arena, give_back, grow_with, obtain, one_more, put_away, regrow}
-use Rattle.pool_law.specs.Readers.{Entries, Reader, ◌>>◌, give}
+use Rattle.pool_law.specs.Readers.{ToldNotes, Reader, ◌>>◌, give}
 use Rattle.pool_law.proofs.PatternLemmas.{same_root-refl}
 use Rattle.lane_core.specs.declared.growing.Growing.{Growing}
 use Rattle.lane_core.specs.declared.growing.Growing.TheVariants.{Room, Cache, Arena, Grow, Put, Give}
@@ -22,7 +22,7 @@ use Rattle.lane_core.proofs.GrowReads.{read_extended, read_grown}
 use Rattle.lane_core.proofs.Ways.{HasWay, Taken, arena_way, give_back_way, give_way, obtain_way, put_away_way, then_way}
 
 -- over these entries it goes on as one that can be read
-on_way : {A : Type 0} (r q : Reader A) (es : Entries) → ReadsOn r es none_asked q → HasWay q → HasWay r
+on_way : {A : Type 0} (r q : Reader A) (es : ToldNotes) → ReadsOn r es none_asked q → HasWay q → HasWay r
 on_way {A} r q es on way seen asked =
     let y : Taken A q (seen ++ es) asked = way (seen ++ es) asked in
     record {
@@ -31,7 +31,7 @@ on_way {A} r q es on way seen asked =
       seen_then = y.seen_then;
       asked_then = y.asked_then;
       read = λ rest.
-          ap (λ (left : Entries). r (record { seen = seen; asked = asked; left = left }))
+          ap (λ (left : ToldNotes). r (record { seen = seen; asked = asked; left = left }))
           (append_assoc es y.taken rest)
           ∙ on (record { seen = seen; asked = asked; left = y.taken ++ rest })
           ∙ y.read rest;
@@ -43,7 +43,7 @@ module _ (root : RootId) (size : ℕ) where
       → HasWay (regrow shape lane root size)
   regrow_way shape lane class is =
       let did = Did.Extend size in
-      let e : Entry = record { note = Note.At (Root root.place) 0 did; root = Some root; region = None } in
+      let e : ToldNote = record { note = Note.At (Root root.place) 0 did; root = Some root; region = None } in
       let all : Result ℕ Reply = Ok size in
       on_way (regrow shape lane root size) (give all) (e ∷ [])
       (read_extended shape lane class size 0 root e (same_root-refl root) is refl) (give_way all)
@@ -52,7 +52,7 @@ module _ (root : RootId) (size : ℕ) where
   grow_with_way : (region : Option RegionId) → HasWay (grow_with root size region)
   grow_with_way None = give_way (Err Reply.Full)
   grow_with_way (Some r) =
-      let e : Entry = record {
+      let e : ToldNote = record {
         note = Note.At (Root root.place) 0 (Did.Grow size (one_more r));
         root = Some root;
         region = Some r;

@@ -4,7 +4,7 @@ use Rattle.std.specs.Prelude.{map}
 use Rattle.std.proofs.lemmas.List.{map-append}
 use Rattle.pool_law.specs.declared.id.RootId.{RootId}
 use Rattle.pool_law.specs.Capacities.{told_by, known_of}
-use Rattle.pool_law.specs.Logs.{Entry as LawEntry}
+use Rattle.pool_law.specs.Logs.{ToldNote}
 use Rattle.pool_table.specs.declared.views.Entry.{Entry}
 use Rattle.pool_table.specs.declared.views.SeatView.{SeatView}
 use Rattle.pool_table.specs.Capacities.{knows_of}
@@ -20,7 +20,7 @@ none_more k = omega arith
 regroup : (a k t : ℕ) → max a (max k t) ≡ max (max a k) t
 regroup a k t = omega arith
 
-known_append : (r : RootId) (xs ys : List LawEntry) → known_of r (xs ++ ys) ≡ max (known_of r xs) (known_of r ys)
+known_append : (r : RootId) (xs ys : List ToldNote) → known_of r (xs ++ ys) ≡ max (known_of r xs) (known_of r ys)
 known_append r [] ys = none_more (known_of r ys)
 known_append r (x ∷ xs) ys =
     ap (max (told_by r x.root x.note)) (known_append r xs ys)
@@ -32,7 +32,7 @@ pub knows_same : (v w : SeatView) (added : List Entry) → w.own.notes ≡ v.own
 knows_same v w added notes r none =
     same (knows_of r v) (told_in r added) (knows_of r w)
     (ap (λ (es : List Entry). max r.capacity (known_of r (map law_entry es))) notes
-    ∙ ap (λ (es : List LawEntry). max r.capacity (known_of r es)) (map-append law_entry v.own.notes added)
+    ∙ ap (λ (es : List ToldNote). max r.capacity (known_of r es)) (map-append law_entry v.own.notes added)
     ∙ ap (max r.capacity) (known_append r (lane_entries v) (map law_entry added))
     ∙ regroup r.capacity (known_of r (lane_entries v)) (told_in r added)) none
   where

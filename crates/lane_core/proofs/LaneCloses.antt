@@ -4,7 +4,7 @@ use Rattle.pool_law.specs.declared.command.Command.{Command}
 use Rattle.pool_law.specs.LaneStates.{LaneState}
 use Rattle.pool_law.specs.Names.{Names}
 use Rattle.pool_law.specs.Patterns.{closing}
-use Rattle.pool_law.specs.Readers.{Entries}
+use Rattle.pool_law.specs.Readers.{ToldNotes}
 use Rattle.shared_pool.specs.SeatViews.{view_of}
 use Rattle.shared_pool.specs.declared.pool.SharedPool.{SharedPool}
 use Rattle.lane_core.specs.declared.context.Context.{Context}
@@ -27,13 +27,13 @@ use Rattle.lane_core.proofs.CloseTurns.{closing_same, closing_so, closing_next}
 use Rattle.lane_core.proofs.LaneKept.{closed_lane}
 
 -- how far the closing was read
-begun_at : (l : Lane) (s : LaneState) (names : Names) (stage : Draining) (es : Entries) → l.stage ≡ Closing stage
+begun_at : (l : Lane) (s : LaneState) (names : Names) (stage : Draining) (es : ToldNotes) → l.stage ≡ Closing stage
     → IsBegun l s names [] es → ReadsOn (closing (number_of l)) es none_asked
     (draining.rest_of Close (number_of l) stage)
 begun_at l s names stage es is begun log =
     begun log ∙ ap (λ (x : Stage). reads_closing (number_of l) x (behind log es none_asked)) is
 
-begun_first : (l : Lane) (s : LaneState) (names : Names) (es : Entries) → l.stage ≡ Ready → IsBegun l s names [] es
+begun_first : (l : Lane) (s : LaneState) (names : Names) (es : ToldNotes) → l.stage ≡ Ready → IsBegun l s names [] es
     → ReadsOn (closing (number_of l)) es none_asked (draining.rest_of Close (number_of l) (Ask 0))
 begun_first l s names es is begun log =
     begun log ∙ ap (λ (x : Stage). reads_closing (number_of l) x (behind log es none_asked)) is

@@ -13,7 +13,7 @@ use Rattle.pool_law.specs.LaneStates.{LaneState, new_lane, log_at}
 use Rattle.pool_law.specs.Lanes.{Answer, turn}
 use Rattle.pool_law.specs.Names.{Names}
 use Rattle.pool_law.specs.Patterns.{closing}
-use Rattle.pool_law.specs.Readers.{Entries, Log, Reader}
+use Rattle.pool_law.specs.Readers.{ToldNotes, Log, Reader}
 use Rattle.pool_law.proofs.PatternLemmas.{lane_run-push}
 use Rattle.pool_table.specs.declared.views.Entry.{Entry}
 use Rattle.shared_pool.specs.SeatViews.{view_of}
@@ -117,7 +117,7 @@ module _ (pool : SharedPool) (l : Lane) (lane : IsRunningLane pool l) (d : Conte
           record {
             counted = ap (λ (rs : List Answered). sum (note_counts rs)) replies ∙ was.counted ∙ sym begun;
             run =
-                subst (λ (x : List Answered × Entries). lane_run sweep_period shape number new_lane
+                subst (λ (x : List Answered × ToldNotes). lane_run sweep_period shape number new_lane
                 (take (length x.0) l.commands) (pieces (note_counts x.0) x.1) ≡ Some (replies_in x.0, lane.state))
                 (λ i. (
                   sym replies i,
@@ -138,7 +138,7 @@ module _ (pool : SharedPool) (l : Lane) (lane : IsRunningLane pool l) (d : Conte
           → NameFits d stage →
           SpendsAt l.context d (left_now l.context.composes command l.stage (view_of l.context.seat))
           (left_now l.context.composes command stage (view_of d.seat)) →
-          ((rest : Entries) → reads_now l.context (renamed lane.state lane.bound) command l.stage
+          ((rest : ToldNotes) → reads_now l.context (renamed lane.state lane.bound) command l.stage
           (log_of l.context (map entry_of added ++ rest))
           ≡ reads_now l.context (renamed lane.state names) command stage (log_of d rest))
           → IsRunningLane pool (lane_at l d stage n)
@@ -151,12 +151,12 @@ module _ (pool : SharedPool) (l : Lane) (lane : IsRunningLane pool l) (d : Conte
           let has : IsBegun new s names (command ∷ later) (entries_since l ++ map entry_of added) =
           (λ rest.
           sym (turn_same s command (log_at s ((entries_since l ++ map entry_of added) ++ rest)))
-          ∙ ap (λ (es : Entries). turn sweep_period l.context.shape number s command (log_at s es))
+          ∙ ap (λ (es : ToldNotes). turn sweep_period l.context.shape number s command (log_at s es))
           (append_assoc (entries_since l) (map entry_of added) rest)
           ∙ had (map entry_of added ++ rest) ∙ reads rest
           ∙ reads_same (renamed s names) command stage (log_of d rest)) in
           lane_with stage context fits name still_few s still_answered names are
-          (subst (λ (x : List Command × Entries). IsBegun new s names x.0 x.1)
+          (subst (λ (x : List Command × ToldNotes). IsBegun new s names x.0 x.1)
           (λ i. (sym left_now_is i, sym (still_since pool l lane.context d n hand added grew replies begun stage) i))
           has)
           (λ closes. absurd (is_open closes)) fresh
@@ -220,7 +220,7 @@ module _ (pool : SharedPool) (l : Lane) (lane : IsRunningLane pool l) (d : Conte
           length-append l.context.replies.items (answered.answered ∷ []) in
           omega (arith, a, b)
 
-      abbrev group : Entries
+      abbrev group : ToldNotes
       group = entries_since l ++ map entry_of added
 
       all_length : length (entries_of d) ≤ d.begun
@@ -238,7 +238,7 @@ module _ (pool : SharedPool) (l : Lane) (lane : IsRunningLane pool l) (d : Conte
       whole : answered_entries l ++ group ≡ entries_of d
       whole =
           sym (append_assoc (answered_entries l) (entries_since l) (map entry_of added))
-          ∙ ap (λ (es : Entries). es ++ map entry_of added) (take-append-drop l.context.begun (entries_of l.context))
+          ∙ ap (λ (es : ToldNotes). es ++ map entry_of added) (take-append-drop l.context.begun (entries_of l.context))
           ∙ sym (entries_grew pool l lane.context d n hand added grew)
 
       before_length : length (answered_entries l) ≡ l.context.begun
@@ -247,7 +247,8 @@ module _ (pool : SharedPool) (l : Lane) (lane : IsRunningLane pool l) (d : Conte
 
       group_length : answered.answered.notes ≡ length group
       group_length =
-          let a = ap (λ (es : Entries). length es) whole in let b = length-append (answered_entries l) group in let c =
+          let a = ap (λ (es : ToldNotes). length es) whole in let b = length-append (answered_entries l) group in let
+            c =
           before_length in
           let e = length-map (notes_of d) entry_of in let f = answered.notes in omega (arith, a, b, c, e, f)
 
@@ -268,7 +269,7 @@ module _ (pool : SharedPool) (l : Lane) (lane : IsRunningLane pool l) (d : Conte
           (replies_in l.context.replies.items) answered.answered.reply lane.answered.run
           (step_is sweep_period shape number lane.state command group (entries_of d) d.asked answered.answered.reply
           answered.bound
-          (λ rest. ap (λ (es : Entries). turn sweep_period shape number lane.state command (log_at lane.state es))
+          (λ rest. ap (λ (es : ToldNotes). turn sweep_period shape number lane.state command (log_at lane.state es))
           (append_assoc (entries_since l) (map entry_of added) rest) ∙ had (map entry_of added ++ rest)
           ∙ answered.reads rest))
 
@@ -319,7 +320,7 @@ module _ (pool : SharedPool) (l : Lane) (lane : IsRunningLane pool l) (d : Conte
           lane_with Ready context fits tt (let e = one_more in let f = cut.2 in omega (arith, e, f)) state_now
           done_answered
           answered.bound answered.names
-          (subst (λ (es : Entries). IsBegun done state_now answered.bound (commands_left done) es) (sym done_since)
+          (subst (λ (es : ToldNotes). IsBegun done state_now answered.bound (commands_left done) es) (sym done_since)
           (begun_ready (commands_left done)))
           (λ closes. absurd closes) (λ ready. record { begun = answered.begun; names_are = refl; asked = refl })
           (λ u. absurd u)
@@ -351,7 +352,7 @@ module _ (pool : SharedPool) (l : Lane) (lane : IsRunningLane pool l) (d : Conte
         lane_with (Closing after) context fits tt (still_few replies begun (Closing after)) lane.state
         (still_answered replies begun (Closing after)) lane.bound
         (subst (NamesAre lane.bound) (sym names) lane.bound_are)
-        (subst (λ (x : List Command × Entries). IsBegun new lane.state lane.bound x.0 x.1)
+        (subst (λ (x : List Command × ToldNotes). IsBegun new lane.state lane.bound x.0 x.1)
         (λ i. (
           sym none_now i,
           sym (still_since pool l lane.context d n hand added grew replies begun (Closing after))

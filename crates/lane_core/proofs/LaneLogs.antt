@@ -11,7 +11,7 @@ use Rattle.pool_law.specs.LaneLaw.{lane_step, before_stop, pieces, note_counts}
 use Rattle.pool_law.specs.LaneStates.{LaneState, log_at, state_at}
 use Rattle.pool_law.specs.Lanes.{Answer, answer, turn}
 use Rattle.pool_law.specs.Names.{Names}
-use Rattle.pool_law.specs.Readers.{Entries, Log, ended_with}
+use Rattle.pool_law.specs.Readers.{ToldNotes, Log, ended_with}
 
 -- the first of what is left
 pub cut_more : {X : Type 0} (k : ℕ) (xs : List X) (x : X) (ys : List X) → drop k xs ≡ x ∷ ys
@@ -77,14 +77,14 @@ abbrev to_end : Answer × Log → Option (Answer × Log)
 to_end p = option_and_then {U = Answer × Log} (λ (q : Unit {0} × Log). Some (p.0, q.1)) (ended_with p.1 p.1.left)
 
 -- a command whose notes are these is answered
-pub step_is : (period : ℕ) (shape : Shape) (lane : ℕ) (s : LaneState) (c : Command) (es seen : Entries) (asked : ℕ)
+pub step_is : (period : ℕ) (shape : Shape) (lane : ℕ) (s : LaneState) (c : Command) (es seen : ToldNotes) (asked : ℕ)
     (reply : Reply) (names : Names) →
-    ((rest : Entries) → turn period shape lane s c (log_at s (es ++ rest))
+    ((rest : ToldNotes) → turn period shape lane s c (log_at s (es ++ rest))
     ≡ Some (answer reply names, record { seen = seen; asked = asked; left = rest })) →
     lane_step period shape lane s c es ≡ Some (reply, record { names = names; seen = seen; asked = asked })
 step_is period shape lane s c es seen asked reply names reads =
     ended (turn period shape lane s c (log_at s es))
-    (ap (λ (xs : Entries). turn period shape lane s c (log_at s xs)) (sym (append-nil es)) ∙ reads [])
+    (ap (λ (xs : ToldNotes). turn period shape lane s c (log_at s xs)) (sym (append-nil es)) ∙ reads [])
   where
     ended : (o : Option (Answer × Log)) → o ≡ Some
         (answer reply names, record { seen = seen; asked = asked; left = [] }) →

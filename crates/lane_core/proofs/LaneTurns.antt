@@ -10,7 +10,7 @@ use Rattle.pool_law.specs.declared.run.Reply.{Reply}
 use Rattle.pool_law.specs.LaneStates.{LaneState, log_at}
 use Rattle.pool_law.specs.Lanes.{Answer, turn}
 use Rattle.pool_law.specs.Names.{Names}
-use Rattle.pool_law.specs.Readers.{Entries, Log, Reader}
+use Rattle.pool_law.specs.Readers.{ToldNotes, Log, Reader}
 use Rattle.pool_table.specs.declared.views.SeatView.{SeatView}
 use Rattle.shared_pool.specs.SeatViews.{view_of}
 use Rattle.shared_pool.specs.declared.pool.SharedPool.{SharedPool}
@@ -98,12 +98,12 @@ module _ (pool : SharedPool) (l : Lane) (lane : IsRunningLane pool l) (d : Conte
       later left open_yet open_yet w (λ ready. t.comes.0) t.grew.context t.fits t.name t.spends (λ log. refl)
 
   -- what was noted since is read up to the stage
-  begun_now : (more : Entries) → turn sweep_period l.context.shape (number_of l) lane.state command
+  begun_now : (more : ToldNotes) → turn sweep_period l.context.shape (number_of l) lane.state command
       (log_at lane.state (entries_since l ++ more)) ≡ reads_now state_of l.stage (log_of l.context more)
   begun_now = subst (λ (cs : List Command). IsBegun l lane.state lane.bound cs (entries_since l)) left lane.begun
 
   -- where the rest can be read, some entries may follow
-  some_follow : CanBeRead (reads_now state_of l.stage) → (more : Entries) × MayFollow l more
+  some_follow : CanBeRead (reads_now state_of l.stage) → (more : ToldNotes) × MayFollow l more
   some_follow can =
       let way = can (entries_of l.context) l.context.asked in (
         way.0,

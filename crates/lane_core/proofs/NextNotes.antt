@@ -15,9 +15,9 @@ use Rattle.pool_law.specs.Counts.{root_is}
 use Rattle.pool_law.specs.Dids as says
 use Rattle.pool_law.specs.Lanes.{set_parts, get_parts}
 use Rattle.pool_law.specs.Limits.{cached_classes}
-use Rattle.pool_law.specs.Logs.{Entry}
+use Rattle.pool_law.specs.Logs.{ToldNote}
 use Rattle.pool_law.specs.Patterns.{allot, ask_arena, bear, drain, found_room, give_back, grown, one_more, sheds}
-use Rattle.pool_law.specs.Readers.{Entries, Log, Reader, ◌>>=◌, ◌>>◌, ◌or◌, access, done_at, first_of_left, give, growth, next, note}
+use Rattle.pool_law.specs.Readers.{ToldNotes, Log, Reader, ◌>>=◌, ◌>>◌, ◌or◌, access, done_at, first_of_left, give, growth, next, note}
 use Rattle.pool_law.specs.Same.{same_object}
 use Rattle.pool_law.proofs.SameLemmas.{same_object-is}
 use Rattle.lane_core.specs.declared.draining.DrainKind.{DrainKind}
@@ -26,7 +26,7 @@ use Rattle.lane_core.specs.NextNotes.{StandsFirst, BeginsAt}
 use Rattle.lane_core.proofs.Readings.{classes_next}
 
 -- an entry that is a note in the section of this object
-abbrev StandsAt : Object → Entry → Type 0
+abbrev StandsAt : Object → ToldNote → Type 0
 StandsAt o e = (number : ℕ) × (did : Did) × (e.note ≡ Note.At o number did)
 
 -- ---- One note.
@@ -55,9 +55,9 @@ done_there o (Note.At other number did) is = (
 done_there o (Note.Ref root did) is = absurd (cc is)
 done_there o (Note.Busy held) is = absurd (cc is)
 
-module _ {A : Type 0} (o : Object) (read : Entry → Option A)
-    (there : (e : Entry) → IsSome (read e) → StandsAt o e) where
-  first_there : (log : Log) (es : Entries) → IsSome (first_of_left read log es) → StandsFirst o es
+module _ {A : Type 0} (o : Object) (read : ToldNote → Option A)
+    (there : (e : ToldNote) → IsSome (read e) → StandsAt o e) where
+  first_there : (log : Log) (es : ToldNotes) → IsSome (first_of_left read log es) → StandsFirst o es
   first_there log [] is = absurd (cc is)
   first_there log (e ∷ es) is = there e (mapped_some _ (read e) is)
 

@@ -16,7 +16,7 @@ use Rattle.pool_law.specs.LaneStates.{new_lane}
 use Rattle.pool_law.specs.Lanes.{turn}
 use Rattle.pool_law.specs.Names.{Bound}
 use Rattle.pool_law.specs.Patterns.{closing}
-use Rattle.pool_law.specs.Readers.{Entries}
+use Rattle.pool_law.specs.Readers.{ToldNotes}
 use Rattle.pool_table.specs.declared.views.Entry.{Entry}
 use Rattle.pool_table.specs.declared.views.SeatView.{SeatView}
 use Rattle.shared_pool.specs.SeatViews.{view_of}
@@ -47,7 +47,7 @@ use Rattle.lane_core.proofs.ReadLaws.{still_on}
 use Rattle.lane_core.proofs.RoomLaws.{all_takes, bound_is, bound_few}
 
 -- ---- The log and the names at first.
-CountsAre-none : (cs : List Counted) → ((root : RootId) → counted cs root ≡ 0) → (es : Entries) → es ≡ []
+CountsAre-none : (cs : List Counted) → ((root : RootId) → counted cs root ≡ 0) → (es : ToldNotes) → es ≡ []
     → CountsAre cs es
 CountsAre-none cs none es e =
     subst (CountsAre cs) (sym e) (record { counts = λ root. sym (none root); holds = λ root. tt })
@@ -192,7 +192,7 @@ module _ (pool : SharedPool) (shape : Shape) (l : Lane) (p : Parts)
     begins : (cs : List Command) → IsBegun new new_lane [] cs (entries_of new.context)
     begins [] =
         let reads = closing (lane_of l.context.seat) in
-        subst (λ (es : Entries). ReadsOn reads es none_asked reads) (sym none_yet) (still_on reads)
+        subst (λ (es : ToldNotes). ReadsOn reads es none_asked reads) (sym none_yet) (still_on reads)
     begins (c ∷ cs) =
         λ rest i. turn sweep_period shape (lane_of l.context.seat) new_lane c
         (record { seen = sym none_yet i; asked = 0; left = none_yet i ++ rest })

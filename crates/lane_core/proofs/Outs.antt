@@ -6,7 +6,7 @@ use Rattle.pool_law.specs.declared.id.RegionId.{RegionId}
 use Rattle.pool_law.specs.declared.note.Did.{Did}
 use Rattle.pool_law.specs.declared.note.Did.TheVariants.{Take}
 use Rattle.pool_law.specs.Limits.{cached_classes}
-use Rattle.table_law.specs.NoteCounts.{one_if_so}
+use Rattle.history_laws.specs.NoteCounts.{one_if_so}
 use Rattle.pool_table.specs.declared.views.Entry.{Entry}
 use Rattle.pool_table.specs.declared.views.Entry.TheVariants.{At, Ref, Busy}
 use Rattle.pool_table.specs.declared.views.SeatView.{SeatView}

@@ -10,7 +10,7 @@ use Rattle.pool_law.specs.declared.note.Object.TheVariants.{Root}
 use Rattle.pool_law.specs.Counts.{root_is}
 use Rattle.pool_law.specs.Dids as says
 use Rattle.pool_law.specs.Lanes.{set_parts, get_parts, copy_parts}
-use Rattle.pool_law.specs.Logs.{Entry}
+use Rattle.pool_law.specs.Logs.{ToldNote}
 use Rattle.pool_law.specs.Readers.{Log, Reader, ◌>>=◌, ◌>>◌, give, access}
 use Rattle.pool_law.proofs.CompositeLemmas.{same_bytes-refl}
 use Rattle.pool_law.proofs.PatternLemmas.{same_number}
@@ -25,7 +25,7 @@ after_two f g None = refl
 after_two f g (Some got) = refl
 
 -- the entry of an access to the root is the first
-module _ (e : Entry) (r : RootId) (number offset : ℕ) (here : root_is r e.root ≡ true) where
+module _ (e : ToldNote) (r : RootId) (number offset : ℕ) (here : root_is r e.root ≡ true) where
   pub read_set_at : (bytes : List ℕ) → e.note ≡ Note.At (Root r.place) number (Did.Set offset bytes)
       → ReadsOn (access r (says.set offset bytes)) (e ∷ []) none_asked (give tt)
   read_set_at bytes is =
@@ -42,7 +42,7 @@ module _ (e : Entry) (r : RootId) (number offset : ℕ) (here : root_is r e.root
       access_on e r (says.get offset len) number did is here bytes so
 
 -- the first part's note is the first entry
-module _ (p : Part) (ps : List Part) (e : Entry) (number : ℕ) (here : root_is p.root e.root ≡ true) where
+module _ (p : Part) (ps : List Part) (e : ToldNote) (number : ℕ) (here : root_is p.root e.root ≡ true) where
   -- the part is set to these bytes, and those behind it to the rest
   pub set_part_on : (first rest : List ℕ) → length first ≡ p.len
       → e.note ≡ Note.At (Root p.root.place) number (Did.Set p.offset first)

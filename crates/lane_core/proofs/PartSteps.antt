@@ -8,7 +8,7 @@ use Rattle.pool_law.specs.declared.note.Did.{Did}
 use Rattle.pool_law.specs.declared.note.Held.{Held}
 use Rattle.pool_law.specs.declared.note.Object.{Object}
 use Rattle.pool_law.specs.declared.note.Object.TheVariants.{Root}
-use Rattle.pool_law.specs.Readers.{Entries}
+use Rattle.pool_law.specs.Readers.{ToldNotes}
 use Rattle.pool_law.proofs.SameLemmas.{same_root-is}
 use Rattle.shared_pool.specs.declared.seat.PoolSeat.{PoolSeat}
 use Rattle.pool_table.specs.declared.views.Entry.{Entry}
@@ -78,7 +78,7 @@ module _ (pool : SharedPool) (old new : PoolSeat) (was : IsPoolSeat pool old)
       pub same_counts : IsAccessDid r number v.own.number did → HasCount r v → (cs : List Counted)
           → CountsAre cs (map entry_of v.own.notes) → CountsAre cs (map entry_of w.own.notes)
       same_counts did_is has cs are =
-          let es : Entries = map entry_of v.own.notes in
+          let es : ToldNotes = map entry_of v.own.notes in
           let some : 0 < counted cs r = is_counted cs v was.alone are r has in
           let more : map entry_of w.own.notes ≡ es ++ entry_of part_entry ∷ [] = ap (map entry_of) grows.more.notes
           ∙ map-append entry_of v.own.notes (part_entry ∷ []) in

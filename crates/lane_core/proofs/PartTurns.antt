@@ -12,7 +12,7 @@ use Rattle.pool_law.specs.LaneLaw.{sweep_period, before_stop}
 use Rattle.pool_law.specs.LaneStates.{LaneState}
 use Rattle.pool_law.specs.Lanes.{Answer, answer}
 use Rattle.pool_law.specs.Names.{Names, Bound}
-use Rattle.pool_law.specs.Readers.{Entries, Log, Reader, ◌>>=◌}
+use Rattle.pool_law.specs.Readers.{ToldNotes, Log, Reader, ◌>>=◌}
 use Rattle.pool_table.specs.declared.views.Entry.{Entry}
 use Rattle.shared_pool.specs.SeatViews.{view_of, SameSeat}
 use Rattle.shared_pool.specs.declared.pool.SharedPool.{SharedPool}
@@ -49,12 +49,12 @@ use Rattle.lane_core.proofs.StageNeeds.{answers_behind}
 
 -- ---- What entries make of the counts, by the counts before and behind them.
 
-holds_behind : (root : RootId) (k : ℕ) (xs ys : Entries) → CountsHold root k (xs ++ ys)
+holds_behind : (root : RootId) (k : ℕ) (xs ys : ToldNotes) → CountsHold root k (xs ++ ys)
     → CountsHold root (count_from root k xs) ys
 holds_behind root k [] ys holds = holds
 holds_behind root k (x ∷ xs) ys holds = holds_behind root (count_step root k x) xs ys holds.1.1
 
-pub recounts_between : (cs ds : List Counted) (log es : Entries) → CountsAre cs log → CountsAre ds (log ++ es)
+pub recounts_between : (cs ds : List Counted) (log es : ToldNotes) → CountsAre cs log → CountsAre ds (log ++ es)
     → Recounts cs ds es
 recounts_between cs ds log es before behind = record {
   counts = λ root.
@@ -153,24 +153,25 @@ module _ (pool : SharedPool) (before after : Hand) (old mid : Context) (added : 
       spends start mid refl noted replies
 
   -- what is read over the entries
-  pub moved_with : {A : Type 0} (r q : Reader A) → ReadsOnWith old.counts r (map entry_of added) q → (rest : Entries)
+  pub moved_with : {A : Type 0} (r q : Reader A) → ReadsOnWith old.counts r (map entry_of added) q → (rest : ToldNotes)
       → r (log_of old (map entry_of added ++ rest)) ≡ q (log_of start rest)
   moved_with r q on rest =
       on (log_of old rest) m.context.counts.counts
       ∙ (λ i. q (record { seen = sym entries_are i; asked = old.asked; left = rest }))
 
-  pub moved_read : {A : Type 0} (r q : Reader A) → ReadsOn r (map entry_of added) none_asked q → (rest : Entries)
+  pub moved_read : {A : Type 0} (r q : Reader A) → ReadsOn r (map entry_of added) none_asked q → (rest : ToldNotes)
       → r (log_of old (map entry_of added ++ rest)) ≡ q (log_of start rest)
   moved_read r q on rest = reads_at old start (map entry_of added) none_asked entries_are refl r q on rest
 
   -- the log of the step's context has its counts
-  pub moved_counts : (rest : Entries) (root : RootId) → count_of root (log_of start rest).seen ≡ counted mid.counts root
+  pub moved_counts : (rest : ToldNotes) (root : RootId) → count_of root (log_of start rest).seen ≡ counted mid.counts
+    root
   moved_counts rest root = m.counts.counts root
 
   -- it goes on
   pub moved_on : 0 < length added → (reads : Reader Answer) (behind : Names → Reader Answer) (bound : Names)
       → NamesAre bound old.names
-      → ((rest : Entries) → reads (log_of old (map entry_of added ++ rest)) ≡ behind bound (log_of start rest))
+      → ((rest : ToldNotes) → reads (log_of old (map entry_of added ++ rest)) ≡ behind bound (log_of start rest))
       → GoesOn old mid added reads behind
   moved_on some reads behind bound are is = record {
     some = some;
@@ -209,7 +210,7 @@ module _ (pool : SharedPool) (before after : Hand) (old mid : Context) (added : 
       (body : Reader Answer)
       (body_is : (log : Log) → reads_from old.shape (lane_of old.seat) s command stage log
       ≡ (body >>= swept (lane_of old.seat)) log)
-      (reads : (rest : Entries) → body (log_of old (map entry_of added ++ rest))
+      (reads : (rest : ToldNotes) → body (log_of old (map entry_of added ++ rest))
       ≡ Some (answer reply bound, log_of start rest)) where
     abbrev lane : ℕ
     lane = lane_of old.seat
@@ -221,7 +222,8 @@ module _ (pool : SharedPool) (before after : Hand) (old mid : Context) (added : 
     abbrev sweeping : Context
     sweeping = record start { names = names; notes = mid.notes; asked = 0 }
 
-    body_reads : (rest : Entries) → reads_from old.shape lane s command stage (log_of old (map entry_of added ++ rest))
+    body_reads : (rest : ToldNotes) → reads_from old.shape lane s command stage (log_of old (map entry_of added ++
+      rest))
         ≡ swept lane (answer reply bound) (log_of start rest)
     body_reads rest =
         body_is (log_of old (map entry_of added ++ rest))

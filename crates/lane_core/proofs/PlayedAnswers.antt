@@ -6,7 +6,7 @@ use Rattle.pool_law.specs.declared.run.Answered.{Answered}
 use Rattle.pool_law.specs.LaneLaw.{IsLaneLog, sweep_period, lane_run, before_stop, stopped_run, note_counts, replies_in, pieces, closes}
 use Rattle.pool_law.specs.LaneStates.{new_lane, log_at}
 use Rattle.pool_law.specs.Patterns.{closing}
-use Rattle.pool_law.specs.Readers.{Entries, Log, ended_with}
+use Rattle.pool_law.specs.Readers.{ToldNotes, Log, ended_with}
 use Rattle.pool_law.proofs.HistoryLemmas.{append-nil}
 use Rattle.shared_pool.specs.declared.pool.SharedPool.{SharedPool}
 use Rattle.shared_pool.specs.Closing.{entry_of}
@@ -38,7 +38,7 @@ module _ (pool : SharedPool) (k : ℕ) (l : Lane) (f : IsFinishedLane pool k l) 
   abbrev counts : List ℕ
   counts = note_counts rs
 
-  abbrev es : Entries
+  abbrev es : ToldNotes
   es = entries_of l.context
 
   abbrev number : ℕ
@@ -71,7 +71,7 @@ module _ (pool : SharedPool) (k : ℕ) (l : Lane) (f : IsFinishedLane pool k l) 
   closed : closes number (entries_since l) ≡ Some tt
   closed =
       let since = entries_since l in
-      ap ended (ap (λ (xs : Entries). closing number (log_at new_lane xs)) (sym (append-nil since))
+      ap ended (ap (λ (xs : ToldNotes). closing number (log_at new_lane xs)) (sym (append-nil since))
       ∙ had (log_at new_lane []))
 
   own_log : IsLaneLog l.context.shape number l.commands rs es
@@ -83,10 +83,10 @@ module _ (pool : SharedPool) (k : ℕ) (l : Lane) (f : IsFinishedLane pool k l) 
             length-map entry_of (notes_of l.context) in omega (arith, a, b, c));
         last = passed-over.state;
         answered =
-            subst (λ (ps : List Entries). lane_run sweep_period l.context.shape number new_lane (take n l.commands)
+            subst (λ (ps : List ToldNotes). lane_run sweep_period l.context.shape number new_lane (take n l.commands)
             (take n ps) ≡ Some (take n (replies_in rs), passed-over.state)) cut passed-over.run;
         stopped =
-            subst (λ (x : List Command × List Entries). stopped_run number (drop n x.0) (drop n x.1)
+            subst (λ (x : List Command × List ToldNotes). stopped_run number (drop n x.0) (drop n x.1)
             ≡ Some (drop n (replies_in rs))) (λ i. (all i, cut i)) passed-over.stopped;
         closed = ap (closes number) (behind-is counts es ∙ ap (λ n. drop n es) passed-over.counted) ∙ closed;
       }

@@ -13,7 +13,7 @@ use Rattle.pool_law.specs.declared.run.Shape.{Shape}
 use Rattle.pool_law.specs.Counts.{total_of}
 use Rattle.pool_law.specs.Leaks.{births, is_sampled, keeps_records, accesses_to, kept_of, dropped_of, capacity_at_end, leak_of, lane_leaks, leaks_of}
 use Rattle.pool_law.specs.Legal.{HistoriesHold}
-use Rattle.pool_law.specs.Logs.{Logs, Entry as LogEntry, of_lane, entries_of}
+use Rattle.pool_law.specs.Logs.{Logs, ToldNote, of_lane, entries_of}
 use Rattle.pool_law.proofs.SameLemmas.{and-first, and-second}
 use Rattle.leak_records.specs.declared.live.LiveRoot.{LiveRoot}
 use Rattle.leak_records.specs.Records.{Sampling, new_sampler, watch_of}
@@ -223,7 +223,7 @@ module _ (shape : Shape) (parts : List Part) (hold : HistoriesHold shape (logs_i
   abbrev told_leak : RootId × Watch → Leak
   told_leak x = leak_for (live_of parts x.0 x.1)
 
-  abbrev leak_with : (lane nth : ℕ) (root : RootId) → List (List LogEntry) → Leak
+  abbrev leak_with : (lane nth : ℕ) (root : RootId) → List (List ToldNote) → Leak
   leak_with lane nth root es = record {
     lane = lane;
     serial = 1 + nth;

@@ -13,7 +13,7 @@ use Rattle.pool_law.specs.LaneLaw.{IsLaneLog}
 use Rattle.pool_law.specs.Leaks.{leaks_of}
 use Rattle.pool_law.specs.Legal.{AreCommands, CountsAgree, HistoriesHold, ends_from, logs_of, others_retains, replies_of}
 use Rattle.pool_law.specs.Limits.{IsShape}
-use Rattle.pool_law.specs.Logs.{Entry, of_lane, entries_of, history_of}
+use Rattle.pool_law.specs.Logs.{ToldNote, of_lane, entries_of, history_of}
 use Rattle.run_order.specs.Order.{InOneOrder}
 use Rattle.run_order.proofs.HandOver.{handed_over}
 use Rattle.leak_records.specs.declared.live.LiveRoot.{LiveRoot}
@@ -38,7 +38,8 @@ use Rattle.lane_core.proofs.PlayedReport.{below-or}
 use Rattle.lane_core.proofs.PlayedReported.{leaks-are}
 
 -- a lane of the log's fields, which were rewritten one by one
-log-as : (shape : Shape) (k : ℕ) (a b : List Command) (r q : List Answered) (e f : List Entry) → a ≡ b → r ≡ q → e ≡ f
+log-as : (shape : Shape) (k : ℕ) (a b : List Command) (r q : List Answered) (e f : List ToldNote) → a ≡ b → r ≡ q → e ≡
+  f
     → IsLaneLog shape k a r e → IsLaneLog shape k b q f
 log-as shape k a b r q e f x y z h =
     subst (λ c. IsLaneLog shape k c q f) x

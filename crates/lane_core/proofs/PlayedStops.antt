@@ -13,7 +13,7 @@ use Rattle.pool_law.specs.declared.run.Shape.{Shape}
 use Rattle.pool_law.specs.LaneLaw.{before_stop, note_counts, pieces, replies_in, stopped_run}
 use Rattle.pool_law.specs.Lanes.{not_carried_out}
 use Rattle.pool_law.specs.LaneStates.{log_at, new_lane}
-use Rattle.pool_law.specs.Readers.{Entries, read_all}
+use Rattle.pool_law.specs.Readers.{ToldNotes, read_all}
 use Rattle.shared_pool.specs.declared.pool.SharedPool.{SharedPool}
 use Rattle.lane_core.specs.declared.lane.Lane.{Lane}
 use Rattle.lane_core.specs.Lanes.{Heeds, answered_entries, number_of}
@@ -31,7 +31,7 @@ before-stop (x ∷ rs) zero r e lt is = (cc)
 before-stop (x ∷ rs) (suc k) r e lt is = before-stop rs k r e (omega (arith, lt)) is
 
 -- each reply of a stopped lane does
-behind-stop : (lane : ℕ) (cs : List Command) (gs : List Entries) (rs : List Reply) (k : ℕ) (r : Reply)
+behind-stop : (lane : ℕ) (cs : List Command) (gs : List ToldNotes) (rs : List Reply) (k : ℕ) (r : Reply)
     → stopped_run lane cs gs ≡ Some rs → slice_get rs k ≡ Some r → r ≡ Stopped
 behind-stop lane [] [] rs k r run e =
     let same : ◌≡◌ {A = List Reply} [] rs = cc run in
@@ -53,7 +53,7 @@ behind-stop lane (c ∷ cs) (g ∷ gs) rs k r run e =
     go ys (suc k) is at = is k at
 
 -- a lane that its gate let pass up to the first such reply, and stopped there
-as-asked : (stops : ℕ → Bool) (rs : List Reply) (lane : ℕ) (cs : List Command) (gs : List Entries)
+as-asked : (stops : ℕ → Bool) (rs : List Reply) (lane : ℕ) (cs : List Command) (gs : List ToldNotes)
     → ((line : ℕ) → line < before_stop rs → stops line ≡ false)
     → (before_stop rs < length rs → stops (before_stop rs) ≡ true)
     → stopped_run lane cs gs ≡ Some (drop (before_stop rs) rs) → StopsAsAsked stops rs

@@ -20,7 +20,7 @@ use Rattle.pool_law.specs.Lanes.{Answer, answer, answer_of, received, no_parcel,
 use Rattle.pool_law.specs.Names.{Plain, Names, bind, Bound}
 use Rattle.pool_law.specs.Readers.{Reader, ◌>>=◌, ◌>>◌, give, given, note}
 use Rattle.pool_law.proofs.PatternLemmas.{same_number, same_root-refl}
-use Rattle.table_law.specs.NoteCounts.{one_if_so, view_of_root}
+use Rattle.history_laws.specs.NoteCounts.{one_if_so, view_of_root}
 use Rattle.pool_table.specs.declared.views.Entry.{Entry}
 use Rattle.pool_table.specs.declared.views.SeatView.{SeatView}
 use Rattle.pool_table.specs.Counts.{weigh, on_this, ref_gain, ref_loss, fetches, posts as posted_of, HasCount}

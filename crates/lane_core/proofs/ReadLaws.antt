@@ -12,9 +12,9 @@ use Rattle.pool_law.specs.Arenas.{or_else}
 use Rattle.pool_law.specs.Counts.{root_is}
 use Rattle.pool_law.specs.LaneLaw.{sweep_period}
 use Rattle.pool_law.specs.Lanes.{Answer}
-use Rattle.pool_law.specs.Logs.{Entry}
+use Rattle.pool_law.specs.Logs.{ToldNote}
 use Rattle.pool_law.specs.Patterns.{sweep}
-use Rattle.pool_law.specs.Readers.{Entries, Log, Reader, ◌>>=◌, ◌>>◌, ◌or◌, give, nothing, behind_entry, done_at, marked, note, step, busy, access, ask, asks_anew}
+use Rattle.pool_law.specs.Readers.{ToldNotes, Log, Reader, ◌>>=◌, ◌>>◌, ◌or◌, give, nothing, behind_entry, done_at, marked, note, step, busy, access, ask, asks_anew}
 use Rattle.pool_law.specs.Same.{same_object}
 use Rattle.pool_law.proofs.CompositeLemmas.{access-is}
 use Rattle.pool_law.proofs.PatternLemmas.{same_object-refl, note-is, step-is}
@@ -22,7 +22,7 @@ use Rattle.lane_core.specs.Readings.{before_left, ReadsOn, none_asked, one_asked
 
 -- ---- One reading after another.
 
-module _ {A B : Type 0} (r : Reader A) (es : Entries) (asks : ℕ → ℕ) where
+module _ {A B : Type 0} (r : Reader A) (es : ToldNotes) (asks : ℕ → ℕ) where
   pub then_on : (f : A → Reader B) (q : Reader A) → ReadsOn r es asks q → ReadsOn (r >>= f) es asks (q >>= f)
   then_on f q on log = ap (λ o. option_and_then (λ got. f got.0 got.1) o) (on log)
 
@@ -31,7 +31,7 @@ module _ {A B : Type 0} (r : Reader A) (es : Entries) (asks : ℕ → ℕ) where
   given_on f a on log = ap (λ o. option_and_then (λ got. f got.0 got.1) o) (on log)
 
 -- of two readings the first, and where it gives nothing the second
-module _ {A : Type 0} (r q : Reader A) (es : Entries) (asks : ℕ → ℕ) where
+module _ {A : Type 0} (r q : Reader A) (es : ToldNotes) (asks : ℕ → ℕ) where
   pub first_on : (a : A) → ReadsOn r es asks (give a) → ReadsOn (r or q) es asks (give a)
   first_on a on log = ap (λ o. or_else o (q (before_left log es))) (on log)
 
@@ -43,42 +43,42 @@ pub none_then : {A B : Type 0} (r : Reader A) (f : A → Reader B) (log : Log) �
 none_then r f log is = ap (λ o. option_and_then (λ got. f got.0 got.1) o) is
 
 -- over one entry, and over the next
-pub two_on : {A : Type 0} (r q t : Reader A) (e f : Entry) → ReadsOn r (e ∷ []) none_asked q
+pub two_on : {A : Type 0} (r q t : Reader A) (e f : ToldNote) → ReadsOn r (e ∷ []) none_asked q
     → ReadsOn q (f ∷ []) none_asked t → ReadsOn r (e ∷ f ∷ []) none_asked t
 two_on r q t e f first second log =
     first (before_left log (f ∷ []))
     ∙ second (record { seen = log.seen ++ e ∷ []; asked = log.asked; left = log.left })
-    ∙ ap (λ (seen : Entries). t (record { seen = seen; asked = log.asked; left = log.left }))
+    ∙ ap (λ (seen : ToldNotes). t (record { seen = seen; asked = log.asked; left = log.left }))
     (append_assoc log.seen (e ∷ []) (f ∷ []))
 
 -- over two lists of entries, where no cache is asked
-pub on_append : {A : Type 0} (r q t : Reader A) (es fs : Entries) → ReadsOn r es none_asked q
+pub on_append : {A : Type 0} (r q t : Reader A) (es fs : ToldNotes) → ReadsOn r es none_asked q
     → ReadsOn q fs none_asked t → ReadsOn r (es ++ fs) none_asked t
 on_append r q t es fs first second log =
-    ap (λ (left : Entries). r (record { seen = log.seen; asked = log.asked; left = left }))
+    ap (λ (left : ToldNotes). r (record { seen = log.seen; asked = log.asked; left = left }))
     (append_assoc es fs log.left)
     ∙ first (before_left log fs)
     ∙ second (record { seen = log.seen ++ es; asked = log.asked; left = log.left })
-    ∙ ap (λ (seen : Entries). t (record { seen = seen; asked = log.asked; left = log.left }))
+    ∙ ap (λ (seen : ToldNotes). t (record { seen = seen; asked = log.asked; left = log.left }))
     (append_assoc log.seen es fs)
 
 -- an allocation asks a cache, and what it reads then
-pub asked_on : {A : Type 0} (r t : Reader A) (es : Entries) → ReadsOn r es none_asked t
+pub asked_on : {A : Type 0} (r t : Reader A) (es : ToldNotes) → ReadsOn r es none_asked t
     → ReadsOn (ask >> r) es one_asked t
 asked_on r t es on log = on (record log { asked = log.asked + 1 })
 
 -- over no entries
 pub still_on : {A : Type 0} (r : Reader A) → ReadsOn r [] none_asked r
 still_on r log =
-    ap (λ (seen : Entries). r (record { seen = seen; asked = log.asked; left = log.left })) (sym (nil log.seen))
+    ap (λ (seen : ToldNotes). r (record { seen = seen; asked = log.asked; left = log.left })) (sym (nil log.seen))
   where
-    nil : (es : Entries) → es ++ [] ≡ es
+    nil : (es : ToldNotes) → es ++ [] ≡ es
     nil [] = refl
-    nil (e ∷ es) = ap (λ (x : Entries). e ∷ x) (nil es)
+    nil (e ∷ es) = ap (λ (x : ToldNotes). e ∷ x) (nil es)
 
 -- ---- One entry.
 
-module _ {A : Type 0} (e : Entry) where
+module _ {A : Type 0} (e : ToldNote) where
   module _ (o : Object) (says : Did → Option A) (n : ℕ) (did : Did) (is : e.note ≡ Note.At o n did) where
     pub note_on : (a : A) → says did ≡ Some a → ReadsOn (note o says) (e ∷ []) none_asked (give a)
     note_on a so log =
@@ -123,7 +123,7 @@ module _ {A : Type 0} (e : Entry) where
       ap (λ (n : Note). option_map (λ a. (a, behind_entry (before_left log (e ∷ [])) e log.left))
       (option_and_then says (done_at o n))) is
 
-pub mark_on : (e : Entry) (o : Object) (held : Held) → held.object ≡ o → e.note ≡ Note.Busy held
+pub mark_on : (e : ToldNote) (o : Object) (held : Held) → held.object ≡ o → e.note ≡ Note.Busy held
     → ReadsOn (busy o) (e ∷ []) none_asked (give held.number)
 mark_on e o held at is log =
     ap (λ (n : Note). option_map (λ (a : ℕ). (a, behind_entry (before_left log (e ∷ [])) e log.left)) (marked o n)) is
@@ -131,7 +131,7 @@ mark_on e o held at is log =
     (if b then Some held.number else None)) (ap (same_object o) at ∙ same_object-refl o)
 
 -- a busy mark alone may be there where a note is
-pub note_unmarked : (e : Entry) (o p : Object) (n : ℕ) (did : Did) → e.note ≡ Note.At p n did → (log : Log)
+pub note_unmarked : (e : ToldNote) (o p : Object) (n : ℕ) (did : Did) → e.note ≡ Note.At p n did → (log : Log)
     → busy o (before_left log (e ∷ [])) ≡ None
 note_unmarked e o p n did is log =
     ap (λ (x : Note). option_map (λ (a : ℕ). (a, behind_entry (before_left log (e ∷ [])) e log.left)) (marked o x)) is

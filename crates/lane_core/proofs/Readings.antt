@@ -12,7 +12,7 @@ use Rattle.pool_law.specs.declared.run.Reply.{Reply}
 use Rattle.pool_law.specs.declared.run.Shape.{Shape}
 use Rattle.pool_law.specs.Dids as says
 use Rattle.pool_law.specs.Limits.{cached_classes, geometry_of}
-use Rattle.pool_law.specs.Logs.{Entry}
+use Rattle.pool_law.specs.Logs.{ToldNote}
 use Rattle.pool_law.specs.Patterns.{New, allot, obtain, ask_arena, bear, one_more, put_away, give_back, sheds, drain}
 use Rattle.pool_law.specs.Readers.{Reader, ◌>>=◌, ◌>>◌, give, nothing, given, note, step, ending}
 use Rattle.pool_law.proofs.PatternLemmas.{same_number, same_root-refl, same_region-refl, allot-handle, allot-no_handle}
@@ -26,7 +26,7 @@ use Rattle.lane_core.proofs.ReadLaws.{then_on, given_on, two_on, note_on, step_o
 
 -- ---- An allocation.
 
-module _ (shape : Shape) (lane size class place n : ℕ) (e : Entry) where
+module _ (shape : Shape) (lane size class place n : ℕ) (e : ToldNote) where
   abbrev born : Option RegionId → Reader (Result New Reply)
   born region = bear lane place size region
 
@@ -50,7 +50,7 @@ module _ (shape : Shape) (lane size class place n : ℕ) (e : Entry) where
       → ReadsOn (allot shape lane size) (e ∷ []) none_asked (give (Err Reply.Handles))
   read_no_handle is log = allot-no_handle shape lane size (before_left log (e ∷ [])) e log.left refl n is
 
-  pub read_born : (root : RootId) (r : RegionId) (f : Entry) → root.place ≡ place → root.capacity ≡ size
+  pub read_born : (root : RootId) (r : RegionId) (f : ToldNote) → root.place ≡ place → root.capacity ≡ size
       → e.note ≡ Note.At (Root root.place) n (Did.Birth root (one_more r)) → f.note ≡ Note.Ref root Born →
       ReadsOn (born (Some r)) (e ∷ f ∷ []) none_asked (give (Ok (record { root = root; region = one_more r })))
   read_born root r f at long is next =
@@ -78,12 +78,12 @@ module _ (shape : Shape) (lane size class place n : ℕ) (e : Entry) where
 
 -- ---- The end of a root.
 
-module _ (shape : Shape) (place n : ℕ) (e : Entry) where
+module _ (shape : Shape) (place n : ℕ) (e : ToldNote) where
   abbrev home : Reader (Unit {0})
   home = goes_home shape place
 
   -- the end of a root and its vacated word
-  pub read_end : (root : RootId) (r : RegionId) (f : Entry) → place ≡ root.place
+  pub read_end : (root : RootId) (r : RegionId) (f : ToldNote) → place ≡ root.place
       → e.note ≡ Note.At (Root root.place) n (Did.End root) → e.region ≡ Some r → f.note ≡ Note.Ref root Vacated →
       ReadsOn (retired shape root) (e ∷ f ∷ []) none_asked (put_away r >> home)
   read_end root r f at is has next =
@@ -125,7 +125,7 @@ quota_said : (kind : DrainKind) (quota : ℕ) → quota_in kind (quota_note kind
 quota_said Trim quota = refl
 quota_said Close quota = refl
 
-module _ (kind : DrainKind) (lane class n : ℕ) (e : Entry) where
+module _ (kind : DrainKind) (lane class n : ℕ) (e : ToldNote) where
   abbrev classes : List ℕ
   classes = classes_from (class + 1)
 

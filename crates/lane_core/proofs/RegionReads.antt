@@ -12,7 +12,7 @@ use Rattle.pool_law.specs.declared.note.Object.TheVariants.{Arena, Cache}
 use Rattle.pool_law.specs.declared.run.Shape.{Shape}
 use Rattle.pool_law.specs.Dids as says
 use Rattle.pool_law.specs.Limits.{cached_classes, has_cache}
-use Rattle.pool_law.specs.Logs.{Entry}
+use Rattle.pool_law.specs.Logs.{ToldNote}
 use Rattle.pool_law.specs.Patterns.{obtain, ask_cache, ask_arena, put_away, offer, not_kept, give_back}
 use Rattle.pool_law.specs.Readers.{Log, Reader, ◌>>=◌, ◌>>◌, ◌or◌, give, nothing, unless_there, found, not_found, note, busy}
 use Rattle.pool_law.proofs.PatternLemmas.{same_number, same_region-refl}
@@ -45,7 +45,7 @@ pub obtain_uncached : {A : Type 0} (shape : Shape) (lane class : ℕ) (next : Op
 obtain_uncached shape lane class next more log =
     ap (λ (b : Bool). (obtains shape lane class b >>= next) log) (uncached class more)
 
-module _ {A : Type 0} (shape : Shape) (lane class n : ℕ) (e : Entry) (next : Option RegionId → Reader A) where
+module _ {A : Type 0} (shape : Shape) (lane class n : ℕ) (e : ToldNote) (next : Option RegionId → Reader A) where
   -- what the cache answers
   abbrev hits : Reader (Option RegionId)
   hits = found (note (Cache lane class) says.hit)
@@ -135,7 +135,7 @@ pub put_uncached : {A : Type 0} (next : Reader A) (r : RegionId) → cached_clas
 put_uncached next r more log =
     ap (λ (b : Bool). ((if b then offer r else give_back r) >> next) log) (uncached r.class more)
 
-module _ {A : Type 0} (n : ℕ) (e : Entry) (next : Reader A) where
+module _ {A : Type 0} (n : ℕ) (e : ToldNote) (next : Reader A) where
   module _ (r : RegionId) where
     abbrev keeps : Reader (Unit {0})
     keeps = note (Cache r.owner r.class) (says.kept r)
@@ -144,7 +144,7 @@ module _ {A : Type 0} (n : ℕ) (e : Entry) (next : Reader A) where
     refuses = not_kept r
 
     -- where the class has one, that is asked
-    offered : (after : Reader A) (es : List Entry) → r.class < cached_classes
+    offered : (after : Reader A) (es : List ToldNote) → r.class < cached_classes
         → ReadsOn (offer r >> next) es none_asked after → ReadsOn (put_away r >> next) es none_asked after
     offered after es less on log =
         ap (λ (b : Bool). ((if b then offer r else give_back r) >> next) (before_left log es)) (cached r.class less)

@@ -16,7 +16,7 @@ use Rattle.pool_law.specs.LaneLaw.{sweep_period}
 use Rattle.pool_law.specs.LaneStates.{LaneState}
 use Rattle.pool_law.specs.Lanes.{Answer, composed, release_parts}
 use Rattle.pool_law.specs.Names.{Bound, Composed, Names, bind}
-use Rattle.pool_law.specs.Readers.{Entries, Log, Reader, ◌>>=◌, ◌>>◌, give, nothing}
+use Rattle.pool_law.specs.Readers.{ToldNotes, Log, Reader, ◌>>=◌, ◌>>◌, give, nothing}
 use Rattle.pool_law.proofs.CompositeLemmas.{release_part-gone}
 use Rattle.pool_table.specs.declared.views.Entry.{Entry}
 use Rattle.shared_pool.specs.declared.pool.SharedPool.{SharedPool}
@@ -94,7 +94,7 @@ module _ (pool : SharedPool) (old mid : Context) (stage : Releasing) (d : IsCont
       sampled = did.sampled old.sampler;
     }
 
-    pub released_read : (rest : Entries) → releasing.rest_of old.shape stage
+    pub released_read : (rest : ToldNotes) → releasing.rest_of old.shape stage
         (log_of old (map entry_of did.added ++ rest))
         ≡ releasing.rest_after old.shape result (log_of (between old mid) rest)
     released_read =
@@ -104,7 +104,7 @@ module _ (pool : SharedPool) (old mid : Context) (stage : Releasing) (d : IsCont
         (releasing.rest_after shape result)) (sym d.shape) did.read)
 
     -- and what follows it
-    pub released_then : {A : Type 0} (q : Reader A) (rest : Entries) → (releasing.rest_of old.shape stage >> q)
+    pub released_then : {A : Type 0} (q : Reader A) (rest : ToldNotes) → (releasing.rest_of old.shape stage >> q)
         (log_of old (map entry_of did.added ++ rest))
         ≡ (releasing.rest_after old.shape result >> q) (log_of (between old mid) rest)
     released_then {A} q rest =

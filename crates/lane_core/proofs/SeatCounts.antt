@@ -12,11 +12,11 @@ use Rattle.pool_law.specs.declared.note.Object.{Object}
 use Rattle.pool_law.specs.declared.note.RefDid.{RefDid}
 use Rattle.pool_law.specs.declared.note.RefDid.TheVariants.{Born, Retain, Kept, Ended, Vacated, Look}
 use Rattle.pool_law.specs.Counts.{view_is_of, root_is, ref_gains, ref_loses, ref_needs, note_gains, note_loses, note_needs, needs_count, count_step, count_from, count_of, CountsHold}
-use Rattle.pool_law.specs.Readers.{Entries}
-use Rattle.pool_law.specs.Logs.{Entry as LawEntry}
+use Rattle.pool_law.specs.Readers.{ToldNotes}
+use Rattle.pool_law.specs.Logs.{ToldNote}
 use Rattle.pool_law.specs.Same.{same_root}
 use Rattle.pool_law.proofs.PatternLemmas.{same_root-refl}
-use Rattle.table_law.specs.NoteCounts.{one_if_so, view_of_root, did_fetch_of, did_post_of}
+use Rattle.history_laws.specs.NoteCounts.{one_if_so, view_of_root, did_fetch_of, did_post_of}
 use Rattle.pool_table.specs.declared.views.Entry.{Entry}
 use Rattle.pool_table.specs.declared.views.Entry.TheVariants.{At, Ref, Busy}
 use Rattle.pool_table.specs.declared.views.Part.{Part}
@@ -132,14 +132,14 @@ step_few true b k = omega arith
 step_few false true k = omega arith
 step_few false false k = omega arith
 
-count_few : (root : RootId) (k : ℕ) (es : Entries) → count_from root k es ≤ k + length es
+count_few : (root : RootId) (k : ℕ) (es : ToldNotes) → count_from root k es ≤ k + length es
 count_few root k [] = omega arith
 count_few root k (e ∷ es) =
     let a = step_few (note_gains root e.note) (note_loses root e.note) k in let b =
     count_few root (count_step root k e) es in
     omega (arith, a, b)
 
-pub few_counted : (cs : List Counted) (es : Entries) → CountsAre cs es → (root : RootId) → counted cs root ≤ length es
+pub few_counted : (cs : List Counted) (es : ToldNotes) → CountsAre cs es → (root : RootId) → counted cs root ≤ length es
 few_counted cs es are root = let a = are.counts root in let b = count_few root 0 es in omega (arith, a, b)
 
 below_or : (a b : ℕ) → (a < b) ⊎ (b ≤ a)
@@ -159,13 +159,13 @@ last_count cs v w r spent are alone grows uncounted =
     ⊎_elim (λ (lt : 1 < counted cs r). absurd (uncounted (omega (arith, a, f, g, l, m, gain, loss, lt))))
     (λ (le : counted cs r ≤ 1). le) (below_or 1 (counted cs r))
 
--- ---- Entries that add to the counts.
+-- ---- ToldNotes that add to the counts.
 
 pub none_added : AddCounts (λ root. 0) []
 none_added = record { adds = λ root k. omega arith; holds = λ root k. tt }
 
 -- an entry that is of no count, and knows no root
-pub still_added : (e : LawEntry) → IsStill e.note → e.root ≡ None → AddCounts (λ root. 0) (e ∷ [])
+pub still_added : (e : ToldNote) → IsStill e.note → e.root ≡ None → AddCounts (λ root. 0) (e ∷ [])
 still_added e is none = record {
   adds = λ root k. (λ i. if is.gains root i then k + 1 else if is.loses root i then k - 1 else k) ∙ omega arith;
   holds = λ root k. (
@@ -183,7 +183,7 @@ born_up true k = refl
 born_up false k = omega arith
 
 -- the note of a birth, and the step that sets the word of the root
-pub born_added : (e : LawEntry) (r : RootId) → IsStill e.note → e.root ≡ None
+pub born_added : (e : ToldNote) (r : RootId) → IsStill e.note → e.root ≡ None
     → AddCounts (one_for r) (e ∷ entry_of (Ref r Born) ∷ [])
 born_added e r is none =
     let first = still_added e is none in
@@ -210,7 +210,7 @@ vacated_up : (b : Bool) (k : ℕ) → (if b && false then k + 1 else if b && fal
 vacated_up b k = unmoved b k ∙ omega arith
 
 -- the note of an end, and the step that vacates the place of the root
-pub vacated_added : (e : LawEntry) (r : RootId) → IsStill e.note → e.root ≡ None
+pub vacated_added : (e : ToldNote) (r : RootId) → IsStill e.note → e.root ≡ None
     → AddCounts (λ root. 0) (e ∷ entry_of (Ref r Vacated) ∷ [])
 vacated_added e r is none =
     let first = still_added e is none in
@@ -233,7 +233,7 @@ vacated_added e r is none =
           );
     }
 
-pub adds_recounted : (cs ds : List Counted) (es : Entries) (more : RootId → ℕ) → AddCounts more es
+pub adds_recounted : (cs ds : List Counted) (es : ToldNotes) (more : RootId → ℕ) → AddCounts more es
     → ((root : RootId) → counted ds root ≡ counted cs root + more root) → Recounts cs ds es
 adds_recounted cs ds es more added is =
     record {
@@ -263,7 +263,7 @@ alone_added cs v w added more are alone notes adds one r lt other at counts =
 
     has : (q : RootId) → 0 < counted cs q + more q → HasCount q w
     has q some =
-        let es : Entries = map entry_of v.own.notes in
+        let es : ToldNotes = map entry_of v.own.notes in
         let holds : CountsHold q 0 (map entry_of w.own.notes) =
         subst (CountsHold q 0) (sym split)
         (holds_append q 0 es (map entry_of added) (are.holds q) (adds.holds q (count_of q es))) in

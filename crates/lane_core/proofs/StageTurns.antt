@@ -9,7 +9,7 @@ use Rattle.pool_law.specs.LaneLaw.{sweep_period, before_stop}
 use Rattle.pool_law.specs.LaneStates.{LaneState}
 use Rattle.pool_law.specs.Lanes.{Answer, answer}
 use Rattle.pool_law.specs.Names.{Names, Bound}
-use Rattle.pool_law.specs.Readers.{Entries, Log, Reader, ◌>>=◌, give}
+use Rattle.pool_law.specs.Readers.{ToldNotes, Log, Reader, ◌>>=◌, give}
 use Rattle.pool_table.specs.declared.views.Entry.{Entry}
 use Rattle.shared_pool.specs.SeatViews.{view_of, SameSeat}
 use Rattle.shared_pool.specs.declared.pool.SharedPool.{SharedPool}
@@ -153,7 +153,7 @@ module _ (pool : SharedPool) (before after : Hand) (old start mid : Context) (ad
     pub staged_answer : HasReplied (record mid { names = names; counts = cs }) new reply → start.asked < sweep_period
         → SpendsAt old final (left_now old.composes command stage (view_of old.seat))
         (with_sheds (view_of start.seat) (notes_alone 0)) →
-        ((rest : Entries) → reads_now (log_of old (map entry_of added ++ rest))
+        ((rest : ToldNotes) → reads_now (log_of old (map entry_of added ++ rest))
         ≡ Some (answer reply bound, log_of final rest)) → HasTurned pool old new s command stage (Went Ready)
     staged_answer replied low spent reads =
         answered pool before after old start mid st.context st.start_is added (view_of old.seat).moves staged st.noted

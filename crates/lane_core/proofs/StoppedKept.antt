@@ -12,7 +12,7 @@ use Rattle.pool_law.specs.Limits.{IsShape}
 use Rattle.pool_law.specs.LaneLaw.{sweep_period, lane_run, stopped_run, before_stop, pieces, note_counts, replies_in}
 use Rattle.pool_law.specs.LaneStates.{new_lane}
 use Rattle.pool_law.specs.Patterns.{closing}
-use Rattle.pool_law.specs.Readers.{Entries}
+use Rattle.pool_law.specs.Readers.{ToldNotes}
 use Rattle.pool_table.specs.declared.views.Entry.{Entry}
 use Rattle.shared_pool.specs.SeatViews.{view_of}
 use Rattle.shared_pool.specs.declared.pool.SharedPool.{SharedPool}
@@ -59,7 +59,7 @@ stops_lane pool l lane is n few =
       all_answered = lane.all_answered;
       rest = λ ready. begun;
       since =
-          subst (λ (x : Entries × Stage). ReadsOn (closing number) x.0 none_asked (reads_closing number x.1))
+          subst (λ (x : ToldNotes × Stage). ReadsOn (closing number) x.0 none_asked (reads_closing number x.1))
           (λ i. (sym none_since i, sym is i)) (still_on (closing number));
       room = lane.room;
       replies = lane.replies;
@@ -130,11 +130,11 @@ module _ (pool : SharedPool) (l : Lane) (lane : IsStoppedLane pool l) (d : Conte
             counted = ap (λ (xs : List Answered). sum (note_counts xs)) replies ∙ was.counted ∙ sym begun;
             state = s;
             run =
-                subst (λ (x : List Answered × Entries). let k = before_stop (replies_in x.0) in
+                subst (λ (x : List Answered × ToldNotes). let k = before_stop (replies_in x.0) in
                 lane_run sweep_period shape number new_lane (take k l.commands) (take k (pieces (note_counts x.0) x.1))
                 ≡ Some (take k (replies_in x.0), s)) (λ i. (sym replies i, sym entries i)) was.run;
             stopped =
-                subst (λ (x : List Answered × Entries). let k = before_stop (replies_in x.0) in
+                subst (λ (x : List Answered × ToldNotes). let k = before_stop (replies_in x.0) in
                 stopped_run number (drop k (take (length x.0) l.commands)) (drop k (pieces (note_counts x.0) x.1))
                 ≡ Some (drop k (replies_in x.0))) (λ i. (sym replies i, sym entries i)) was.stopped;
           }
@@ -147,7 +147,7 @@ module _ (pool : SharedPool) (l : Lane) (lane : IsStoppedLane pool l) (d : Conte
         ReadsOn (closing number) (entries_since (lane_at l d Ready n)) none_asked (closing number)
     rested begun =
         let long = length-map (notes_of d) entry_of in
-        subst (λ (es : Entries). ReadsOn (closing number) es none_asked (closing number))
+        subst (λ (es : ToldNotes). ReadsOn (closing number) es none_asked (closing number))
         (sym (drop_whole d.begun (entries_of d) (omega (arith, begun, long)))) (still_on (closing number))
 
     begun_all : l.context.begun ≡ length (notes_of l.context)
@@ -163,10 +163,10 @@ module _ (pool : SharedPool) (l : Lane) (lane : IsStoppedLane pool l) (d : Conte
         abbrev done : Lane
         done = lane_at l d Ready n
 
-        abbrev group : Entries
+        abbrev group : ToldNotes
         group = map entry_of added
 
-        abbrev before : List Entries
+        abbrev before : List ToldNotes
         before = pieces (note_counts rs) (answered_entries l)
 
         abbrev stop : ℕ
@@ -198,11 +198,11 @@ module _ (pool : SharedPool) (l : Lane) (lane : IsStoppedLane pool l) (d : Conte
         whole : entries_of d ≡ answered_entries l ++ group
         whole =
             entries_grew pool l lane.context d n hand added grew
-            ∙ ap (λ (es : Entries). es ++ group) (sym all_before)
+            ∙ ap (λ (es : ToldNotes). es ++ group) (sym all_before)
 
         before_length : length (answered_entries l) ≡ l.context.begun
         before_length =
-            let a = ap (λ (es : Entries). length es) all_before in let b = length-map (notes_of l.context) entry_of in
+            let a = ap (λ (es : ToldNotes). length es) all_before in let b = length-map (notes_of l.context) entry_of in
             let c = begun_all in omega (arith, a, b, c)
 
         group_length : p.notes ≡ length group
@@ -270,11 +270,11 @@ module _ (pool : SharedPool) (l : Lane) (lane : IsStoppedLane pool l) (d : Conte
               omega (arith, a, b, c, e, f));
           state = lane.answered.state;
           run =
-              subst (λ (x : ℕ × List Entries × List Reply). lane_run sweep_period shape number new_lane
+              subst (λ (x : ℕ × List ToldNotes × List Reply). lane_run sweep_period shape number new_lane
               (take x.0 l.commands) (take x.0 x.1) ≡ Some (take x.0 x.2, lane.answered.state))
               (λ i. (sym stop_now i, sym pieces_now i, sym replies_now i)) ran;
           stopped =
-              subst (λ (x : ℕ × List Entries × List Reply). stopped_run number
+              subst (λ (x : ℕ × List ToldNotes × List Reply). stopped_run number
               (drop x.0 (take (length d.replies.items) l.commands)) (drop x.0 x.1) ≡ Some (drop x.0 x.2))
               (λ i. (sym stop_now i, sym pieces_now i, sym replies_now i)) passed_on;
         }

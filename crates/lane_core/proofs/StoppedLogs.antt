@@ -10,7 +10,7 @@ use Rattle.pool_law.specs.LaneLaw.{sweep_period, lane_run, stopped_run, before_s
 use Rattle.pool_law.specs.LaneStates.{LaneState, new_lane, log_at}
 use Rattle.pool_law.specs.Lanes.{not_carried_out}
 use Rattle.pool_law.specs.Options.{◌>>=◌}
-use Rattle.pool_law.specs.Readers.{Entries, Log, read_all}
+use Rattle.pool_law.specs.Readers.{ToldNotes, Log, read_all}
 use Rattle.lane_core.specs.declared.lane.Lane.{Lane}
 use Rattle.lane_core.specs.Lanes.{HasAnswered, HasPassedOver, answered_entries}
 use Rattle.lane_core.proofs.LaneLogs.{take_whole, drop_whole, pieces-length}
@@ -27,7 +27,7 @@ stop_within (Reply.Stopped ∷ rs) = omega arith
 stop_within (r ∷ rs) = let a = stop_within rs in omega (arith, a)
 
 -- a stopped lane passes one command more over
-pub stopped_run-push : (lane : ℕ) (cs : List Command) (groups : List Entries) (c : Command) (es : Entries)
+pub stopped_run-push : (lane : ℕ) (cs : List Command) (groups : List ToldNotes) (c : Command) (es : ToldNotes)
     (replies : List Reply) → stopped_run lane cs groups ≡ Some replies
     → IsSome (read_all (not_carried_out lane c) (log_at new_lane es)) →
     stopped_run lane (cs ++ c ∷ []) (groups ++ es ∷ []) ≡ Some (replies ++ Reply.Stopped ∷ [])
@@ -67,7 +67,7 @@ stopped_run-push lane (x ∷ cs) (g ∷ groups) c es replies run read =
     first (Some p) is more = second (stopped_run lane cs groups) is more
 
 -- a lane that is stopped nowhere passes none over
-never_stopped : (lane n : ℕ) (cs : List Command) (gs : List Entries) (rs : List Reply) → length cs ≤ n → length gs ≤ n
+never_stopped : (lane n : ℕ) (cs : List Command) (gs : List ToldNotes) (rs : List Reply) → length cs ≤ n → length gs ≤ n
     → length rs ≤ n →
     stopped_run lane (drop n cs) (drop n gs) ≡ Some (drop n rs)
 never_stopped lane n cs gs rs a b c =

@@ -4,7 +4,7 @@ use Rattle.pool_law.specs.declared.command.Command.{Command}
 use Rattle.pool_law.specs.declared.run.Reply.{Reply}
 use Rattle.pool_law.specs.LaneLaw.{sweep_period}
 use Rattle.pool_law.specs.Patterns.{closing}
-use Rattle.pool_law.specs.Readers.{Entries}
+use Rattle.pool_law.specs.Readers.{ToldNotes}
 use Rattle.shared_pool.specs.SeatViews.{view_of}
 use Rattle.shared_pool.specs.declared.pool.SharedPool.{SharedPool}
 use Rattle.shared_pool.specs.Closing.{entry_of}
@@ -66,7 +66,7 @@ module _ (pool : SharedPool) (l : Lane) (lane : IsStoppedLane pool l) where
       (still_few pool l lane d n few hand t.added t.grew t.replies t.begun x)
       (still_passed pool l lane d n few hand t.added t.grew t.replies t.begun x) (λ u. u) (λ closes. none_now)
       (λ ready. absurd ready)
-      (subst (λ (es : Entries). ReadsOn (closing number) es none_asked (draining.rest_of Close number t.after))
+      (subst (λ (es : ToldNotes). ReadsOn (closing number) es none_asked (draining.rest_of Close number t.after))
       (sym since)
       (on_append (closing number) (draining.rest_of Close number stage) (draining.rest_of Close number t.after)
       (entries_since l) (map entry_of t.added) had t.reads))

@@ -19,28 +19,28 @@ use Rattle.pool_law.specs.Counts.{root_is, count_of}
 use Rattle.pool_law.specs.Dids as says
 use Rattle.pool_law.specs.Lanes.{copied_to, copy_parts, get_parts, release_part, release_parts, set_parts}
 use Rattle.pool_law.specs.Limits.{has_cache, cached_classes}
-use Rattle.pool_law.specs.Logs.{Entry}
+use Rattle.pool_law.specs.Logs.{ToldNote}
 use Rattle.pool_law.specs.Options.{check}
 use Rattle.pool_law.specs.Patterns.{New, allot, ask_arena, ask_cache, bear, drain, give_back, obtain, offer, one_more, put_away, release, sheds, sweep_if_due}
-use Rattle.pool_law.specs.Readers.{Entries, Log, Reader, ◌>>=◌, ◌or◌, access, ask, asks, asks_anew, busy, count, done_at, done_to, ending, found, give, next, not_found, note, step, unless_there}
+use Rattle.pool_law.specs.Readers.{ToldNotes, Log, Reader, ◌>>=◌, ◌or◌, access, ask, asks, asks_anew, busy, count, done_at, done_to, ending, found, give, next, not_found, note, step, unless_there}
 use Rattle.pool_law.proofs.CompositeLemmas.{same_bytes-refl}
 use Rattle.pool_law.proofs.PatternLemmas.{same_number, same_object-refl, same_region-refl, same_root-refl}
 use Rattle.size_classes.specs.Sizes.{below}
 use Rattle.lane_core.specs.NextNotes.{CanBeRead}
 
 -- entries that are read from here on, what they give, and what was noted and asked then
-pub record Taken (A : Type 0) (r : Reader A) (seen : Entries) (asked : ℕ) : Type 0 where
-  pub taken : Entries
+pub record Taken (A : Type 0) (r : Reader A) (seen : ToldNotes) (asked : ℕ) : Type 0 where
+  pub taken : ToldNotes
   pub got : A
-  pub seen_then : Entries
+  pub seen_then : ToldNotes
   pub asked_then : ℕ
-  pub read : (rest : Entries) →
+  pub read : (rest : ToldNotes) →
       r (record { seen = seen; asked = asked; left = taken ++ rest })
       ≡ Some (got, record { seen = seen_then; asked = asked_then; left = rest })
 
 -- there are some from everywhere
 abbrev pub HasWay : {A : Type 0} → Reader A → Type 0
-HasWay {A} r = (seen : Entries) (asked : ℕ) → Taken A r seen asked
+HasWay {A} r = (seen : ToldNotes) (asked : ℕ) → Taken A r seen asked
 
 -- it can be read
 pub way_read : {A : Type 0} (r : Reader A) → HasWay r → CanBeRead r
@@ -64,7 +64,7 @@ then_way {A} {B} r f first second seen asked =
       seen_then = y.seen_then;
       asked_then = y.asked_then;
       read = λ rest.
-          ap (λ (left : Entries). (r >>= f) (record { seen = seen; asked = asked; left = left }))
+          ap (λ (left : ToldNotes). (r >>= f) (record { seen = seen; asked = asked; left = left }))
           (append_assoc x.taken y.taken rest)
           ∙ ap (λ o. option_and_then (λ got. f got.0 got.1) o) (x.read (y.taken ++ rest))
           ∙ y.read rest;
@@ -99,7 +99,7 @@ if_way false r q first second = second
 
 -- ---- One entry.
 
-next_way : {A : Type 0} (read : Entry → Option A) (e : Entry) (a : A) → read e ≡ Some a → HasWay (next read)
+next_way : {A : Type 0} (read : ToldNote → Option A) (e : ToldNote) (a : A) → read e ≡ Some a → HasWay (next read)
 next_way read e a is seen asked = record {
   taken = e ∷ [];
   got = a;

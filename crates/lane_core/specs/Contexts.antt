@@ -12,7 +12,7 @@ use Rattle.pool_law.specs.LaneLaw.{sweep_period, before_stop}
 use Rattle.pool_law.specs.LaneStates.{LaneState, new_lane, log_at}
 use Rattle.pool_law.specs.Lanes.{Answer, answer, allotted, composed, copied_to, not_carried_out, regrown, release_parts, turn}
 use Rattle.pool_law.specs.Names.{Names, Plain}
-use Rattle.pool_law.specs.Readers.{Entries, Log, Reader, ◌>>=◌, ◌>>◌, give, read_all}
+use Rattle.pool_law.specs.Readers.{ToldNotes, Log, Reader, ◌>>=◌, ◌>>◌, give, read_all}
 use Rattle.leak_records.specs.Records.{new_sampler}
 use Rattle.pool_table.specs.declared.views.Entry.{Entry}
 use Rattle.pool_table.specs.declared.views.SeatView.{SeatView}
@@ -55,7 +55,7 @@ use Rattle.lane_core.specs.Composing.{HasLast, IsBindable, IsCandidate, IsConsol
 abbrev pub notes_of : Context → List Entry
 notes_of d = (view_of d.seat).own.notes
 
-abbrev pub entries_of : Context → Entries
+abbrev pub entries_of : Context → ToldNotes
 entries_of d = map entry_of (notes_of d)
 
 -- the context of a lane at a pool, with this in hand: its log, its counts and its sampler are those of
@@ -238,7 +238,7 @@ pub record ContextGrew (pool : SharedPool) (hand : Hand) (old new : Context) (ad
     pub name_count : length new.names ≡ length old.names
 
 -- the lane's log, read as far as its seat noted, with these entries behind
-abbrev pub log_of : Context → Entries → Log
+abbrev pub log_of : Context → ToldNotes → Log
 log_of d rest = record { seen = entries_of d; asked = d.asked; left = rest }
 
 -- the command that was under way is answered, as the law reads its notes
@@ -250,7 +250,7 @@ pub record IsAnswered (old new : Context) (added : List Entry) (read : Reader An
   pub begun : new.begun ≡ length (notes_of new)
   pub bound : Names
   pub names : NamesAre bound new.names
-  pub reads : (rest : Entries) →
+  pub reads : (rest : ToldNotes) →
       read (log_of old (map entry_of added ++ rest))
       ≡ Some (answer answered.reply bound, log_of new rest)
 
@@ -264,7 +264,7 @@ pub record GoesOn
     pub begun : new.begun ≡ old.begun
     pub bound : Names
     pub names : NamesAre bound new.names
-    pub reads : (rest : Entries) →
+    pub reads : (rest : ToldNotes) →
         before (log_of old (map entry_of added ++ rest)) ≡ after bound (log_of new rest)
 
 -- it waits, and nothing is new

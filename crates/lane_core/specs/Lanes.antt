@@ -13,7 +13,7 @@ use Rattle.pool_law.specs.LaneStates.{LaneState, new_lane, log_at}
 use Rattle.pool_law.specs.Lanes.{turn}
 use Rattle.pool_law.specs.Names.{Names}
 use Rattle.pool_law.specs.Patterns.{closing}
-use Rattle.pool_law.specs.Readers.{Entries, Reader}
+use Rattle.pool_law.specs.Readers.{ToldNotes, Reader}
 use Rattle.shared_pool.specs.declared.seat.PoolSeat.{PoolSeat}
 use Rattle.pool_table.specs.declared.views.SeatView.{SeatView}
 use Rattle.shared_pool.specs.SeatViews.{view_of}
@@ -37,10 +37,10 @@ abbrev pub commands_left : Lane → List Command
 commands_left l = drop (length l.context.replies.items) l.commands
 
 -- the entries of the commands that are answered, and those behind them
-abbrev pub answered_entries : Lane → Entries
+abbrev pub answered_entries : Lane → ToldNotes
 answered_entries l = take l.context.begun (entries_of l.context)
 
-abbrev pub entries_since : Lane → Entries
+abbrev pub entries_since : Lane → ToldNotes
 entries_since l = drop l.context.begun (entries_of l.context)
 
 -- the replies so far are the law's for the commands so far and what was noted for them, in this
@@ -64,13 +64,13 @@ reads_closing lane _ = λ log. None
 
 -- what was noted since is the beginning of what is under way: of the first of these commands, or
 -- where there is none of the closing
-abbrev pub IsBegun : Lane → LaneState → Names → List Command → Entries → Type 0
+abbrev pub IsBegun : Lane → LaneState → Names → List Command → ToldNotes → Type 0
 IsBegun l s names [] es =
     let lane = lane_of l.context.seat in
     ReadsOn (closing lane) es none_asked (reads_closing lane l.stage)
 IsBegun l s names (command ∷ later) es =
     let lane = lane_of l.context.seat in
-    (rest : Entries) →
+    (rest : ToldNotes) →
     turn sweep_period l.context.shape lane s command (log_at s (es ++ rest))
     ≡ reads_from l.context.shape lane (renamed s names) command l.stage (log_of l.context rest)
 

@@ -8,7 +8,7 @@ use Rattle.pool_law.specs.declared.note.Note.{Note}
 use Rattle.pool_law.specs.declared.run.Shape.{Shape}
 use Rattle.pool_law.specs.Counts.{count_of}
 use Rattle.pool_law.specs.Lanes.{release_parts}
-use Rattle.pool_law.specs.Readers.{Entries, Log, Reader, ◌>>◌, nothing}
+use Rattle.pool_law.specs.Readers.{ToldNotes, Log, Reader, ◌>>◌, nothing}
 use Rattle.leak_records.specs.Records.{Sampling}
 use Rattle.shared_pool.specs.declared.seat.PoolSeat.{PoolSeat}
 use Rattle.pool_table.specs.declared.views.Entry.{Entry}
@@ -75,7 +75,7 @@ rest_after shape (Held held stage) = rest_of shape stage
 rest_after shape Done = nothing
 
 -- over these entries the one reading goes on as the other, of a log with these counts
-abbrev pub ReadsOnWith : {A : Type 0} → List Counted → Reader A → Entries → Reader A → Type 0
+abbrev pub ReadsOnWith : {A : Type 0} → List Counted → Reader A → ToldNotes → Reader A → Type 0
 ReadsOnWith cs before es after =
     (log : Log) → ((root : RootId) → count_of root log.seen ≡ counted cs root) →
     before (before_left log es) ≡ after (behind log es none_asked)

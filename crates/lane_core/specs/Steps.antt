@@ -7,7 +7,7 @@ use Rattle.pool_law.specs.LaneLaw.{sweep_period, lane_run, pieces, note_counts, 
 use Rattle.pool_law.specs.LaneStates.{LaneState, new_lane, log_at}
 use Rattle.pool_law.specs.Lanes.{turn}
 use Rattle.pool_law.specs.Patterns.{closing}
-use Rattle.pool_law.specs.Readers.{Entries}
+use Rattle.pool_law.specs.Readers.{ToldNotes}
 use Rattle.shared_pool.specs.declared.pool.SharedPool.{SharedPool}
 use Rattle.shared_pool.specs.MailAnswers.{IsDrained}
 use Rattle.shared_pool.specs.Seats.{FoundBusy}
@@ -28,7 +28,7 @@ ReceivesNext sender (command ∷ later) = ReceivesFrom command sender
 
 -- the law reads these entries from this state on: as those of the first of these commands, or where
 -- there is none as those of the closing
-abbrev pub IsReadOn : Shape → ℕ → LaneState → List Command → Entries → Type 0
+abbrev pub IsReadOn : Shape → ℕ → LaneState → List Command → ToldNotes → Type 0
 IsReadOn shape lane s [] es = IsSome (closing lane (log_at s es))
 IsReadOn shape lane s (command ∷ later) es =
     IsSome (turn sweep_period shape lane s command (log_at s es))
@@ -43,7 +43,7 @@ IsStateBehind l s (command ∷ later) =
     ≡ Some (replies_in (replies_of l), s)
 
 -- these entries may follow: the law reads them behind what the lane noted since its last reply
-abbrev pub MayFollow : Lane → Entries → Type 0
+abbrev pub MayFollow : Lane → ToldNotes → Type 0
 MayFollow l later =
     (s : LaneState) × IsStateBehind l s (commands_left l)
     × IsReadOn l.context.shape (number_of l) s (commands_left l) (entries_since l ++ later)
@@ -52,8 +52,8 @@ MayFollow l later =
 -- a note there
 abbrev pub NextStandsAt : Lane → Object → Type 0
 NextStandsAt l object =
-    ((later : Entries) × MayFollow l later)
-    × ((later : Entries) → MayFollow l later → StandsFirst object later)
+    ((later : ToldNotes) × MayFollow l later)
+    × ((later : ToldNotes) → MayFollow l later → StandsFirst object later)
 
 -- what a step did, by its answer: where it went a reply was added, or what one section and one step
 -- on a count note, or both, and else nothing; where it is pending its claim found another seat at

@@ -11,8 +11,8 @@ use Rattle.pool_law.specs.Same.{same_root}
 use Rattle.pool_law.proofs.SameLemmas.{same_root-is}
 use Rattle.pool_law.specs.declared.note.Note.{Note}
 use Rattle.pool_law.specs.Counts.{count_from, count_step, note_gains, note_loses}
-use Rattle.pool_law.specs.Readers.{Entries}
-use Rattle.object_steps.specs.declared.told.Told.{Told}
+use Rattle.pool_law.specs.Readers.{ToldNotes}
+use Rattle.object_steps.specs.declared.told.PlaceTold.{PlaceTold}
 use Rattle.lane_reader.specs.Reading.{entry, untold, entries_in}
 use Rattle.lane_reader.specs.Counting.{key_cmp, key_of, count_after}
 use Rattle.lane_reader.proofs.ReadingLemmas.{entries-from, take-next}
@@ -52,21 +52,22 @@ count-added root other f n e = go (same_root root other) refl
 
 -- ---- Counts over notes.
 
-pub count-append : (root : RootId) (k : ℕ) (xs ys : Entries) →
+pub count-append : (root : RootId) (k : ℕ) (xs ys : ToldNotes) →
     count_from root k (xs ++ ys) ≡ count_from root (count_from root k xs) ys
 count-append root k [] ys = refl
 count-append root k (x ∷ xs) ys = count-append root (count_step root k x) xs ys
 
 -- the count after one note more
-pub count-next : (root : RootId) (k : ℕ) (notes : List Note) (told : List Told) (i : ℕ) (note : Note) → i < length notes
+pub count-next : (root : RootId) (k : ℕ) (notes : List Note) (told : List PlaceTold) (i : ℕ) (note : Note) → i < length
+    notes
     →
     note ≡ get_or notes i note →
     count_from root k (take (i + 1) (entries_in notes told))
     ≡ count_after root (count_from root k (take i (entries_in notes told))) note
 count-next root k notes told i note there is =
-    let es : Entries = entries_in notes told in
+    let es : ToldNotes = entries_in notes told in
     let more : suc i ≡ i + 1 = omega arith in
-    let t : Told = unwrap_or (slice_get told i) untold in
+    let t : PlaceTold = unwrap_or (slice_get told i) untold in
     let first : drop i es ≡ entry note t ∷ drop (suc i) es =
     entries-from notes told i note there ∙ ap (λ (n : Note). entry n t ∷ drop (suc i) es) (sym is) in
     ap (λ (n : ℕ). count_from root k (take n es)) (sym more)

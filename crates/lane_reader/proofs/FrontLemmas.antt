@@ -8,7 +8,7 @@ use Rattle.pool_law.specs.declared.command.Command.{Command}
 use Rattle.pool_law.specs.declared.run.Shape.{Shape}
 use Rattle.pool_law.specs.declared.run.Reply.{Reply}
 use Rattle.pool_law.specs.declared.run.Answered.{Answered}
-use Rattle.pool_law.specs.Readers.{Entries, read_all}
+use Rattle.pool_law.specs.Readers.{ToldNotes, read_all}
 use Rattle.pool_law.specs.LaneStates.{LaneState, new_lane, log_at}
 use Rattle.pool_law.specs.Lanes.{not_carried_out}
 use Rattle.pool_law.specs.LaneLaw.{sweep_period, lane_step, note_counts}
@@ -26,7 +26,7 @@ noted rs = sum_by (λ a. a.notes) rs
 pub noted-sum : (rs : List Answered) → sum (note_counts rs) ≡ noted rs
 noted-sum rs = sum-map (λ (a : Answered). a.notes) rs
 
-pub drop-noted : (r : Answered) (rs : List Answered) (es : Entries) →
+pub drop-noted : (r : Answered) (rs : List Answered) (es : ToldNotes) →
     drop (noted (r ∷ rs)) es ≡ drop (noted rs) (drop r.notes es)
 drop-noted r rs es =
     ap (λ (n : ℕ). drop n es) (sum_by-cons (λ a. a.notes) r rs) ∙ sym (drop-drop (noted rs) r.notes es)
@@ -44,14 +44,14 @@ noted-more rs i r replies =
 
 -- ---- One command more of a lane that runs.
 
-ended-state : (shape : Shape) (lane : ℕ) (s last : LaneState) (es : Entries) →
+ended-state : (shape : Shape) (lane : ℕ) (s last : LaneState) (es : ToldNotes) →
     Runs shape lane s [] [] es last → s ≡ last
 ended-state shape lane s last es e =
     let both : ◌≡◌ {A = List Reply × LaneState} ([], s) ([], last) = cc e in
     ap (λ (p : List Reply × LaneState). p.1) both
 
 -- one command more has run exactly where this is its step
-pub run-more : (shape : Shape) (lane : ℕ) (s : LaneState) (cs : List Command) (rs : List Answered) (es : Entries)
+pub run-more : (shape : Shape) (lane : ℕ) (s : LaneState) (cs : List Command) (rs : List Answered) (es : ToldNotes)
     (mid : LaneState) (c : Command) (r : Answered) (last : LaneState) → Runs shape lane s cs rs es mid →
     Runs shape lane s (cs ++ c ∷ []) (rs ++ r ∷ []) es last
     ↔ (lane_step sweep_period shape lane mid c (take r.notes (drop (noted rs) es)) ≡ Some (r.reply, last))
@@ -79,8 +79,8 @@ run-more shape lane s (b ∷ cs) (q ∷ rs) es mid c r last all =
     let more = run-more shape lane next cs rs (drop q.notes es) mid c r last rest in
     let goes = run-goes shape lane s b (cs ++ c ∷ []) q (rs ++ r ∷ []) es next last first.1 in
     let there : take r.notes (drop (noted (q ∷ rs)) es) ≡ take r.notes (drop (noted rs) (drop q.notes es)) =
-    ap (λ (left : Entries). take r.notes left) (drop-noted q rs es) in
-    let step : Entries → Type 0 =
+    ap (λ (left : ToldNotes). take r.notes left) (drop-noted q rs es) in
+    let step : ToldNotes → Type 0 =
     λ piece. lane_step sweep_period shape lane mid c piece ≡ Some (r.reply, last) in (
       λ longer. subst step (sym there) (more.0 (goes.0 longer)),
       λ one. goes.1 (more.1 (subst step there one)),
@@ -89,12 +89,12 @@ run-more shape lane s (b ∷ cs) (q ∷ rs) es mid c r last all =
 -- ---- One command more of a lane that is stopped.
 
 -- what is asked of a command's reply and notes
-abbrev pub IsStopped : ℕ → Command → Answered → Entries → Type 0
+abbrev pub IsStopped : ℕ → Command → Answered → ToldNotes → Type 0
 IsStopped lane c r es =
     (same_reply Reply.Stopped r.reply ≡ true)
     × (is_some (read_all (not_carried_out lane c) (log_at new_lane (take r.notes es))) ≡ true)
 
-pub stop-more : (lane : ℕ) (cs : List Command) (rs : List Answered) (es : Entries) (c : Command) (r : Answered) →
+pub stop-more : (lane : ℕ) (cs : List Command) (rs : List Answered) (es : ToldNotes) (c : Command) (r : Answered) →
     Stops lane cs rs es →
     Stops lane (cs ++ c ∷ []) (rs ++ r ∷ []) es ↔ IsStopped lane c r (drop (noted rs) es)
 stop-more lane [] [] es c r all = (
@@ -109,23 +109,29 @@ stop-more lane (b ∷ cs) (q ∷ rs) es c r all =
     let rest = (stop-goes lane b cs q rs es same read).0 all in
     let more = stop-more lane cs rs (drop q.notes es) c r rest in
     let goes = stop-goes lane b (cs ++ c ∷ []) q (rs ++ r ∷ []) es same read in
-    let is : Entries → Type 0 = λ left. IsStopped lane c r left in (
+    let is : ToldNotes → Type 0 = λ left. IsStopped lane c r left in (
       λ longer. subst is (sym (drop-noted q rs es)) (more.0 (goes.0 longer)),
       λ one. goes.1 (more.1 (subst is (drop-noted q rs es) one)),
     )
 
 -- ---- As the program goes: so many commands have their replies and notes, and these notes are left.
 
-pub record IsLeft (rs : List Answered) (es : Entries) (i : ℕ) (left : Entries) : Type 0 where
+pub record IsLeft (rs : List Answered) (es : ToldNotes) (i : ℕ) (left : ToldNotes) : Type 0 where
   pub counted : noted (take i rs) ≤ length es
   pub rest : left ≡ drop (noted (take i rs)) es
 
-module _ (rs : List Answered) (es : Entries) (i : ℕ) (left : Entries) (is : IsLeft rs es i left) where
+module _ (rs : List Answered) (es : ToldNotes) (i : ℕ) (left : ToldNotes) (is : IsLeft rs es i left) where
   pub left-counted : sum (note_counts (take i rs)) ≤ length es
   left-counted = omega (arith, is.counted, noted-sum (take i rs))
 
   left-length : length left + noted (take i rs) ≡ length es
-  left-length = omega (arith, is.counted, ap (λ (xs : Entries). length xs) is.rest, length-drop (noted (take i rs)) es)
+  left-length = omega (
+    arith,
+    is.counted,
+    ap (λ (xs : ToldNotes). length xs) is.rest,
+    length-drop (noted (take i rs))
+        es,
+  )
 
   pub left-all : length rs ≤ i →
       (sum (note_counts rs) ≤ length es) × (left ≡ drop (sum (note_counts rs)) es)
@@ -141,7 +147,7 @@ module _ (rs : List Answered) (es : Entries) (i : ℕ) (left : Entries) (is : Is
     left-short short counted =
         omega (arith, short, counted, left-length, noted-sum (take (suc i) rs), noted-more rs i r replies)
 
-    pub left-more : r.notes ≤ length left → (left' : Entries) → left' ≡ drop r.notes left → IsLeft rs es (i + 1) left'
+    pub left-more : r.notes ≤ length left → (left' : ToldNotes) → left' ≡ drop r.notes left → IsLeft rs es (i + 1) left'
     left-more fits left' behind =
         let further : suc i ≡ i + 1 = omega arith in
         let more : noted (take i rs) + r.notes ≡ noted (take (i + 1) rs) =
@@ -150,7 +156,7 @@ module _ (rs : List Answered) (es : Entries) (i : ℕ) (left : Entries) (is : Is
           counted = omega (arith, fits, left-length, more);
           rest =
               behind
-              ∙ ap (λ (xs : Entries). drop r.notes xs) is.rest
+              ∙ ap (λ (xs : ToldNotes). drop r.notes xs) is.rest
               ∙ drop-drop r.notes (noted (take i rs)) es
               ∙ ap (λ (n : ℕ). drop n es) more;
         }
@@ -164,7 +170,7 @@ module _ (cs : List Command) (rs : List Answered) (i : ℕ) (c : Command) (r : A
   with-its : take (suc i) rs ≡ take i rs ++ r ∷ []
   with-its = take-next rs i r (drop (i + 1) rs) replies
 
-  module _ (es left : Entries) (is : IsLeft rs es i left) (lane : ℕ) where
+  module _ (es left : ToldNotes) (is : IsLeft rs es i left) (lane : ℕ) where
     module _ (here : Stops lane (take i cs) (take i rs) es) where
       more-stopped : Stops lane (take i cs ++ c ∷ []) (take i rs ++ r ∷ []) es
           ↔ IsStopped lane c r (drop (noted (take i rs)) es)
@@ -175,7 +181,7 @@ module _ (cs : List Command) (rs : List Answered) (i : ℕ) (c : Command) (r : A
 
       pub stopped-next : HasStopped lane (take (suc i) cs) (take (suc i) rs) es → IsStopped lane c r left
       stopped-next all =
-          subst (λ (end : Entries). IsStopped lane c r end) (sym is.rest)
+          subst (λ (end : ToldNotes). IsStopped lane c r end) (sym is.rest)
           (more-stopped.0
           (subst₂ (λ (bs : List Command) (qs : List Answered). Stops lane bs qs es) with-one with-its all.stops))
 
@@ -184,11 +190,11 @@ module _ (cs : List Command) (rs : List Answered) (i : ℕ) (c : Command) (r : A
           let further : suc i ≡ i + 1 = omega arith in
           subst (λ (k : ℕ). Stops lane (take k cs) (take k rs) es) further
           (subst₂ (λ (bs : List Command) (qs : List Answered). Stops lane bs qs es) (sym with-one) (sym with-its)
-          (more-stopped.1 (subst (λ (end : Entries). IsStopped lane c r end) is.rest one)))
+          (more-stopped.1 (subst (λ (end : ToldNotes). IsStopped lane c r end) is.rest one)))
 
     module _ (shape : Shape) (s : LaneState) (here : Runs shape lane new_lane (take i cs) (take i rs) es s) where
       -- the next command's step, with the notes that are left
-      abbrev Steps : LaneState → Entries → Type 0
+      abbrev Steps : LaneState → ToldNotes → Type 0
       Steps next end = lane_step sweep_period shape lane s c (take r.notes end) ≡ Some (r.reply, next)
 
       more-run : (last : LaneState) →
@@ -221,7 +227,7 @@ module _ (cs : List Command) (rs : List Answered) (i : ℕ) (c : Command) (r : A
 
 -- a lane that has run the first so many commands
 pub record HasCome
-    (shape : Shape) (lane : ℕ) (cs : List Command) (rs : List Answered) (es : Entries) (i : ℕ) (here : Lane) : Type 0
+    (shape : Shape) (lane : ℕ) (cs : List Command) (rs : List Answered) (es : ToldNotes) (i : ℕ) (here : Lane) : Type 0
   where
     pub state : LaneState
     pub is : IsLane here state

@@ -6,7 +6,7 @@ use Rattle.std.proofs.lemmas.List.{drop-drop, length-take, take-take}
 use Rattle.pool_law.specs.declared.command.Command.{Command}
 use Rattle.pool_law.specs.declared.run.Shape.{Shape}
 use Rattle.pool_law.specs.declared.run.Answered.{Answered}
-use Rattle.pool_law.specs.Readers.{Entries}
+use Rattle.pool_law.specs.Readers.{ToldNotes}
 use Rattle.pool_law.specs.LaneLaw.{before_stop, note_counts, replies_in}
 use Rattle.lane_reader.specs.Running.{HasRun, HasStopped}
 use Rattle.lane_reader.specs.Unlike.{AreAnswered}
@@ -14,7 +14,7 @@ use Rattle.lane_reader.proofs.PieceLemmas.{rest-whole}
 use Rattle.lane_reader.proofs.FrontLemmas.{noted, noted-sum}
 use Rattle.lane_reader.proofs.WholeLemmas.{noted-parts, parts-answered, first-running, first-stopped}
 
-module _ (shape : Shape) (lane : ℕ) (cs : List Command) (rs : List Answered) (es : Entries) where
+module _ (shape : Shape) (lane : ℕ) (cs : List Command) (rs : List Answered) (es : ToldNotes) where
   -- the first so many have their replies and notes, and no longer with the next
   abbrev pub Until : ℕ → Type 0
   Until k =
@@ -39,7 +39,7 @@ module _ (shape : Shape) (lane : ℕ) (cs : List Command) (rs : List Answered) (
               ((first-running shape lane cs rs es (suc k) (omega (arith, past, is))).0 all)),
         )
 
-    module _ (run : HasRun shape lane (take stop cs) (take stop rs) es) (left : Entries)
+    module _ (run : HasRun shape lane (take stop cs) (take stop rs) es) (left : ToldNotes)
         (left-is : left ≡ drop (sum (note_counts (take stop rs))) es) where
       -- the commands behind the stop
       abbrev rest : List Command
@@ -51,7 +51,7 @@ module _ (shape : Shape) (lane : ℕ) (cs : List Command) (rs : List Answered) (
       left-noted : left ≡ drop (noted (take stop rs)) es
       left-noted = left-is ∙ ap (λ (n : ℕ). drop n es) (noted-sum (take stop rs))
 
-      abbrev P : List Command → List Answered → Entries → Type 0
+      abbrev P : List Command → List Answered → ToldNotes → Type 0
       P bs qs end = HasStopped lane bs qs end
 
       stopped-at : (j : ℕ) → HasStopped lane (take j rest) (take j answers) left →
@@ -80,7 +80,7 @@ module _ (shape : Shape) (lane : ℕ) (cs : List Command) (rs : List Answered) (
                 (subst (λ (k : ℕ). AreAnswered shape lane (take k cs) (take k rs) es) more all)),
           )
 
-      pub whole-stopped : HasStopped lane rest answers left → (end : Entries) →
+      pub whole-stopped : HasStopped lane rest answers left → (end : ToldNotes) →
           end ≡ drop (sum (note_counts answers)) left →
           AreAnswered shape lane cs rs es × (end ≡ drop (sum (note_counts rs)) es)
       whole-stopped these end end-is =
@@ -93,7 +93,7 @@ module _ (shape : Shape) (lane : ℕ) (cs : List Command) (rs : List Answered) (
               stopped = subst₃ P (rest-whole cs stop) (rest-whole rs stop) left-noted these;
             }),
             end-is
-                ∙ ap (λ (xs : Entries). drop (sum (note_counts answers)) xs) left-noted
+                ∙ ap (λ (xs : ToldNotes). drop (sum (note_counts answers)) xs) left-noted
                 ∙ drop-drop (sum (note_counts answers)) (noted (take stop rs)) es
                 ∙ ap (λ (n : ℕ). drop n es) all,
           )

@@ -9,7 +9,7 @@ use Rattle.pool_law.specs.declared.command.Command.{Command}
 use Rattle.pool_law.specs.declared.run.Shape.{Shape}
 use Rattle.pool_law.specs.declared.run.Reply.{Reply}
 use Rattle.pool_law.specs.declared.run.Answered.{Answered}
-use Rattle.pool_law.specs.Readers.{Entries, Log, read_all}
+use Rattle.pool_law.specs.Readers.{ToldNotes, Log, read_all}
 use Rattle.pool_law.specs.LaneStates.{LaneState, new_lane, log_at}
 use Rattle.pool_law.specs.Lanes.{not_carried_out}
 use Rattle.pool_law.specs.LaneLaw.{sweep_period, lane_step, lane_run, stopped_run, before_stop, pieces, note_counts, replies_in}
@@ -58,11 +58,11 @@ longer-is reply first (Some q) replies last e =
     (one, λ i. Some (rest i, end i))
 
 module _ (shape : Shape) (lane : ℕ) (s : LaneState) (c : Command) (cs : List Command) (r : Answered)
-    (rs : List Answered) (es : Entries) where
+    (rs : List Answered) (es : ToldNotes) where
   abbrev step : Option (Reply × LaneState)
   step = lane_step sweep_period shape lane s c (take r.notes es)
 
-  abbrev groups : List Entries
+  abbrev groups : List ToldNotes
   groups = pieces (note_counts rs) (drop r.notes es)
 
   abbrev then : Option (Reply × LaneState) → Option (List Reply × LaneState)
@@ -105,7 +105,7 @@ stopped-is reply (Some q) replies e =
     let rest : q ≡ replies = cc e in
     (one, λ i. Some (rest i))
 
-module _ (lane : ℕ) (c : Command) (cs : List Command) (r : Answered) (rs : List Answered) (es : Entries) where
+module _ (lane : ℕ) (c : Command) (cs : List Command) (r : Answered) (rs : List Answered) (es : ToldNotes) where
   abbrev noted : Option (Unit {0} × Log)
   noted = read_all (not_carried_out lane c) (log_at new_lane (take r.notes es))
 

@@ -5,7 +5,7 @@ use Rattle.std.specs.Prelude.{if◌then◌else◌, Option, Some, None, option_an
 use Rattle.pool_law.specs.declared.command.Command.{Command}
 use Rattle.pool_law.specs.declared.run.Shape.{Shape}
 use Rattle.pool_law.specs.declared.run.Reply.{Reply}
-use Rattle.pool_law.specs.Readers.{Entries, Log, ◌>>◌, give, at_end, ended_with}
+use Rattle.pool_law.specs.Readers.{ToldNotes, Log, ◌>>◌, give, at_end, ended_with}
 use Rattle.pool_law.specs.Names.{Names}
 use Rattle.pool_law.specs.LaneStates.{LaneState, log_at, state_at}
 use Rattle.pool_law.specs.Lanes.{Answer, answer_of}
@@ -21,7 +21,7 @@ use Rattle.lane_reader.proofs.ReadingLemmas.{entries-past, length-entries}
 use Rattle.lane_reader.proofs.PieceLemmas.{where-left}
 
 -- the state behind a log of which this is left
-abbrev finished : Names → Log → Entries → Option LaneState
+abbrev finished : Names → Log → ToldNotes → Option LaneState
 finished names log [] = Some (state_at names log)
 finished names log (e ∷ es) = None
 
@@ -49,7 +49,7 @@ rest-is : (reply : Reply) (a : Answer) (q : Option (Unit {0} × Log)) →
 rest-is reply a None = none-either (same_reply a.reply reply)
 rest-is reply a (Some p) = go p.1.left
   where
-    go : (left : Entries) →
+    go : (left : ToldNotes) →
         where_answered reply
         (option_and_then (λ p. Some (p.0.reply, state_at p.0.names p.1))
         (option_and_then (λ got. give a got.1) (ended_with p.1 left)))
@@ -64,7 +64,7 @@ said-then period lane true p = refl
 said-then period lane false p = refl
 
 -- a step, by what was said
-pub step-is : (period : ℕ) (shape : Shape) (lane : ℕ) (s : LaneState) (c : Command) (es : Entries) (reply : Reply) →
+pub step-is : (period : ℕ) (shape : Shape) (lane : ℕ) (s : LaneState) (c : Command) (es : ToldNotes) (reply : Reply) →
     where_answered reply (lane_step period shape lane s c es)
     ≡ behind_answer period lane (where_said reply (answer_of shape lane s c (log_at s es)))
 step-is period shape lane s c es reply = go (answer_of shape lane s c (log_at s es))
@@ -124,9 +124,9 @@ module _ (period lane : ℕ) (s : LaneState) (log : Rattle.lane_reader.specs.dec
       let all : take behind.place (entries log) ≡ entries log =
       take_all behind.place (entries log) (omega (arith, past, length-entries log.notes.now log.told.now)) in
       ap (λ (q : Option (Unit {0} × Log)). swept_state (changed change s.names) q) swept
-      ∙ ap (λ (es : Entries). finished (changed change s.names) (log_from s.seen log behind) es)
+      ∙ ap (λ (es : ToldNotes). finished (changed change s.names) (log_from s.seen log behind) es)
       (entries-past log.notes.now log.told.now behind.place past)
-      ∙ ap (λ (es : Entries). Some (next_state' es)) all
+      ∙ ap (λ (es : ToldNotes). Some (next_state' es)) all
     where
-      next_state' : Entries → LaneState
+      next_state' : ToldNotes → LaneState
       next_state' es = record { names = changed change s.names; seen = s.seen ++ es; asked = behind.asked }

@@ -5,7 +5,7 @@ use Rattle.std.proofs.lemmas.List.{length-take, take_all, take-take}
 use Rattle.pool_law.specs.declared.command.Command.{Command}
 use Rattle.pool_law.specs.declared.run.Shape.{Shape}
 use Rattle.pool_law.specs.declared.run.Answered.{Answered}
-use Rattle.pool_law.specs.Readers.{Entries}
+use Rattle.pool_law.specs.Readers.{ToldNotes}
 use Rattle.pool_law.specs.LaneLaw.{behind, note_counts, closes, IsLaneLog}
 use Rattle.lane_reader.specs.Unlike.{AreAnswered, IsUnlikeAt}
 use Rattle.lane_reader.proofs.FrontLemmas.{noted-sum}
@@ -15,7 +15,7 @@ some-unit : (o : Option (Unit {0})) → is_some o ≡ true → o ≡ Some tt
 some-unit None e = absurd (cc e)
 some-unit (Some u) e = refl
 
-module _ (shape : Shape) (lane : ℕ) (cs : List Command) (rs : List Answered) (es : Entries) where
+module _ (shape : Shape) (lane : ℕ) (cs : List Command) (rs : List Answered) (es : ToldNotes) where
   -- a log of a lane is its commands' and its closing
   log-answered : IsLaneLog shape lane cs rs es → AreAnswered shape lane cs rs es
   log-answered log =
@@ -24,7 +24,7 @@ module _ (shape : Shape) (lane : ℕ) (cs : List Command) (rs : List Answered) (
   left-behind : drop (sum (note_counts rs)) es ≡ behind (note_counts rs) es
   left-behind = ap (λ (n : ℕ). drop n es) (noted-sum rs) ∙ sym (behind-is rs es)
 
-  log-from : AreAnswered shape lane cs rs es → (left : Entries) → left ≡ drop (sum (note_counts rs)) es →
+  log-from : AreAnswered shape lane cs rs es → (left : ToldNotes) → left ≡ drop (sum (note_counts rs)) es →
       is_some (closes lane left) ≡ true → IsLaneLog shape lane cs rs es
   log-from all left is closed = record {
     counted = all.counted;
@@ -32,14 +32,14 @@ module _ (shape : Shape) (lane : ℕ) (cs : List Command) (rs : List Answered) (
     answered = all.answered;
     stopped = all.stopped;
     closed =
-        ap (λ (end : Entries). closes lane end) (sym (is ∙ left-behind))
+        ap (λ (end : ToldNotes). closes lane end) (sym (is ∙ left-behind))
         ∙ some-unit (closes lane left) closed;
   }
 
-  log-closes : IsLaneLog shape lane cs rs es → (left : Entries) → left ≡ drop (sum (note_counts rs)) es →
+  log-closes : IsLaneLog shape lane cs rs es → (left : ToldNotes) → left ≡ drop (sum (note_counts rs)) es →
       is_some (closes lane left) ≡ true
   log-closes log left is =
-      ap (λ (end : Entries). is_some (closes lane end)) (is ∙ left-behind)
+      ap (λ (end : ToldNotes). is_some (closes lane end)) (is ∙ left-behind)
       ∙ ap (λ (o : Option (Unit {0})). is_some o) log.closed
 
   pub log-lengths : IsLaneLog shape lane cs rs es → length cs ≡ length rs
@@ -88,7 +88,7 @@ module _ (shape : Shape) (lane : ℕ) (cs : List Command) (rs : List Answered) (
         law = law;
       }
 
-      module _ (same : length cs ≡ length rs) (left : Entries)
+      module _ (same : length cs ≡ length rs) (left : ToldNotes)
           (left-is : left ≡ drop (sum (note_counts answers)) es) where
         whole : take count cs ≡ cs
         whole = take_all count cs (omega (arith, is, same))

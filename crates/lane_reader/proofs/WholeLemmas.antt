@@ -8,7 +8,7 @@ use Rattle.pool_law.specs.declared.command.Command.{Command}
 use Rattle.pool_law.specs.declared.run.Shape.{Shape}
 use Rattle.pool_law.specs.declared.run.Reply.{Reply}
 use Rattle.pool_law.specs.declared.run.Answered.{Answered}
-use Rattle.pool_law.specs.Readers.{Entries, Log, read_all}
+use Rattle.pool_law.specs.Readers.{ToldNotes, Log, read_all}
 use Rattle.pool_law.specs.LaneStates.{LaneState, new_lane, log_at}
 use Rattle.pool_law.specs.Lanes.{not_carried_out}
 use Rattle.pool_law.specs.LaneLaw.{sweep_period, lane_step, lane_run, stopped_run, before_stop, pieces, behind, note_counts, replies_in}
@@ -28,36 +28,37 @@ drop-replies rs zero = refl
 drop-replies [] (suc n) = refl
 drop-replies (r ∷ rs) (suc n) = drop-replies rs n
 
-take-pieces : (rs : List Answered) (n : ℕ) (es : Entries) →
+take-pieces : (rs : List Answered) (n : ℕ) (es : ToldNotes) →
     pieces (note_counts (take n rs)) es ≡ take n (pieces (note_counts rs) es)
 take-pieces rs zero es = refl
 take-pieces [] (suc n) es = refl
 take-pieces (r ∷ rs) (suc n) es =
-    ap (λ (groups : List Entries). take r.notes es ∷ groups) (take-pieces rs n (drop r.notes es))
+    ap (λ (groups : List ToldNotes). take r.notes es ∷ groups) (take-pieces rs n (drop r.notes es))
 
-drop-pieces : (rs : List Answered) (n : ℕ) (es : Entries) →
+drop-pieces : (rs : List Answered) (n : ℕ) (es : ToldNotes) →
     pieces (note_counts (drop n rs)) (drop (noted (take n rs)) es) ≡ drop n (pieces (note_counts rs) es)
 drop-pieces rs zero es = refl
 drop-pieces [] (suc n) es = refl
 drop-pieces (r ∷ rs) (suc n) es =
-    ap (λ (left : Entries). pieces (note_counts (drop n rs)) left) (drop-noted r (take n rs) es)
+    ap (λ (left : ToldNotes). pieces (note_counts (drop n rs)) left) (drop-noted r (take n rs) es)
     ∙ drop-pieces rs n (drop r.notes es)
 
-pub behind-is : (rs : List Answered) (es : Entries) → behind (note_counts rs) es ≡ drop (noted rs) es
+pub behind-is : (rs : List Answered) (es : ToldNotes) → behind (note_counts rs) es ≡ drop (noted rs) es
 behind-is [] es = refl
 behind-is (r ∷ rs) es = behind-is rs (drop r.notes es) ∙ sym (drop-noted r rs es)
 
-length-pieces : (rs : List Answered) (es : Entries) → length (pieces (note_counts rs) es) ≡ length rs
+length-pieces : (rs : List Answered) (es : ToldNotes) → length (pieces (note_counts rs) es) ≡ length rs
 length-pieces [] es = refl
 length-pieces (r ∷ rs) es = ap (λ n. suc n) (length-pieces rs (drop r.notes es))
 
-abbrev more_run : Shape → ℕ → List Command → List Entries → Option (Reply × LaneState) → Option (List Reply × LaneState)
+abbrev more_run : Shape → ℕ → List Command → List ToldNotes → Option (Reply × LaneState) → Option (List Reply ×
+    LaneState)
 more_run shape lane cs groups o =
     option_and_then
     (λ p. option_and_then (λ q. Some (p.0 ∷ q.0, q.1)) (lane_run sweep_period shape lane p.1 cs groups)) o
 
 -- as many commands have run as there are pieces
-lane-lengths : (shape : Shape) (lane : ℕ) (s : LaneState) (cs : List Command) (groups : List Entries)
+lane-lengths : (shape : Shape) (lane : ℕ) (s : LaneState) (cs : List Command) (groups : List ToldNotes)
     (p : List Reply × LaneState) →
     lane_run sweep_period shape lane s cs groups ≡ Some p → length cs ≡ length groups
 lane-lengths shape lane s [] [] p e = refl
@@ -81,7 +82,7 @@ lane-lengths shape lane s (c ∷ cs) (es ∷ groups) p e =
         let found = next first.0 (lane_run sweep_period shape lane first.1 cs groups) e in
         ap (λ n. suc n) (rest first.1 found.0 found.1)
 
-stopped-lengths : (lane : ℕ) (cs : List Command) (groups : List Entries) (replies : List Reply) →
+stopped-lengths : (lane : ℕ) (cs : List Command) (groups : List ToldNotes) (replies : List Reply) →
     stopped_run lane cs groups ≡ Some replies → length cs ≡ length groups
 stopped-lengths lane [] [] replies e = refl
 stopped-lengths lane [] (es ∷ groups) replies e = absurd (cc e)
@@ -115,25 +116,25 @@ stop-among rs k = ap (λ (replies : List Reply). before_stop replies) (take-repl
 -- ---- Commands in two parts, up to a stop and behind it.
 
 pub record InParts
-    (shape : Shape) (lane : ℕ) (cs : List Command) (rs : List Answered) (es : Entries) (n : ℕ) : Type 0
+    (shape : Shape) (lane : ℕ) (cs : List Command) (rs : List Answered) (es : ToldNotes) (n : ℕ) : Type 0
   where
     pub running : HasRun shape lane (take n cs) (take n rs) es
     pub stopped : HasStopped lane (drop n cs) (drop n rs) (drop (noted (take n rs)) es)
 
 -- no command of a stopped lane
-none-stopped : (lane : ℕ) (cs : List Command) (rs : List Answered) (es : Entries) → cs ≡ [] → rs ≡ [] →
+none-stopped : (lane : ℕ) (cs : List Command) (rs : List Answered) (es : ToldNotes) → cs ≡ [] → rs ≡ [] →
     HasStopped lane cs rs es
 none-stopped lane cs rs es no-command no-reply =
     subst₂ (λ (these : List Command) (answers : List Answered). HasStopped lane these answers es) (sym no-command)
     (sym no-reply)
     (record { counted = omega arith; stops = refl })
 
-module _ (shape : Shape) (lane : ℕ) (cs : List Command) (rs : List Answered) (es : Entries) where
+module _ (shape : Shape) (lane : ℕ) (cs : List Command) (rs : List Answered) (es : ToldNotes) where
   -- there are as many commands as replies
   pub answered-lengths : AreAnswered shape lane cs rs es → length cs ≡ length rs
   answered-lengths all =
       let n = before_stop (replies_in rs) in
-      let groups : List Entries = pieces (note_counts rs) es in
+      let groups : List ToldNotes = pieces (note_counts rs) es in
       let first : length (take n cs) ≡ length (take n groups) =
       lane-lengths shape lane new_lane (take n cs) (take n groups) (take n (replies_in rs), all.last) all.answered in
       let rest : length (drop n cs) ≡ length (drop n groups) =
@@ -215,7 +216,7 @@ module _ (shape : Shape) (lane : ℕ) (cs : List Command) (rs : List Answered) (
 
 -- ---- The first of the commands.
 
-module _ (shape : Shape) (lane : ℕ) (cs : List Command) (rs : List Answered) (es : Entries) where
+module _ (shape : Shape) (lane : ℕ) (cs : List Command) (rs : List Answered) (es : ToldNotes) where
   -- up to the stop
   pub first-running : (k : ℕ) → k ≤ before_stop (replies_in rs) →
       AreAnswered shape lane (take k cs) (take k rs) es ↔ HasRun shape lane (take k cs) (take k rs) es
@@ -239,7 +240,7 @@ module _ (shape : Shape) (lane : ℕ) (cs : List Command) (rs : List Answered) (
 
   -- and behind it
   module _ (n : ℕ) (stop : n ≡ before_stop (replies_in rs)) (j : ℕ) where
-    abbrev left : Entries
+    abbrev left : ToldNotes
     left = drop (noted (take n rs)) es
 
     first-in-parts : InParts shape lane (take (n + j) cs) (take (n + j) rs) es n
@@ -250,7 +251,7 @@ module _ (shape : Shape) (lane : ℕ) (cs : List Command) (rs : List Answered) (
         let b = take-take n (n + j) cs below in
         let q = take-take n (n + j) rs below in
         let Q : List Command → List Answered → Type 0 = λ these answers. HasRun shape lane these answers es in
-        let P : List Command → List Answered → Entries → Type 0 =
+        let P : List Command → List Answered → ToldNotes → Type 0 =
         λ these answers end. HasStopped lane these answers end in
         let l : drop (noted (take n (take (n + j) rs))) es ≡ left =
         ap (λ (answers : List Answered). drop (noted answers) es) q in (
@@ -277,7 +278,7 @@ module _ (shape : Shape) (lane : ℕ) (cs : List Command) (rs : List Answered) (
     )
 
 -- the first of those that have run
-run-front : (shape : Shape) (lane : ℕ) (s last : LaneState) (cs : List Command) (rs : List Answered) (es : Entries)
+run-front : (shape : Shape) (lane : ℕ) (s last : LaneState) (cs : List Command) (rs : List Answered) (es : ToldNotes)
     (k : ℕ) → Runs shape lane s cs rs es last →
     (mid : LaneState) × Runs shape lane s (take k cs) (take k rs) es mid
 run-front shape lane s last cs rs es zero all = (s, refl)
@@ -290,7 +291,7 @@ run-front shape lane s last (c ∷ cs) (r ∷ rs) es (suc k) all =
     let found = run-front shape lane first.0 last cs rs (drop r.notes es) k rest in
     (found.0, (run-goes shape lane s c (take k cs) r (take k rs) es first.0 found.0 first.1).1 found.1)
 
-stop-front : (lane : ℕ) (cs : List Command) (rs : List Answered) (es : Entries) (k : ℕ) → Stops lane cs rs es →
+stop-front : (lane : ℕ) (cs : List Command) (rs : List Answered) (es : ToldNotes) (k : ℕ) → Stops lane cs rs es →
     Stops lane (take k cs) (take k rs) es
 stop-front lane cs rs es zero all = refl
 stop-front lane [] [] es (suc k) all = all
@@ -306,7 +307,7 @@ noted-front : (rs : List Answered) (k : ℕ) → sum (note_counts (take k rs)) �
 noted-front rs k = omega (arith, noted-sum (take k rs), noted-sum rs, sum_by-take-le (λ (a : Answered). a.notes) rs k)
 
 -- the first of commands that have their replies and notes have theirs
-pub answered-front : (shape : Shape) (lane : ℕ) (cs : List Command) (rs : List Answered) (es : Entries) (k : ℕ) →
+pub answered-front : (shape : Shape) (lane : ℕ) (cs : List Command) (rs : List Answered) (es : ToldNotes) (k : ℕ) →
     AreAnswered shape lane cs rs es → AreAnswered shape lane (take k cs) (take k rs) es
 answered-front shape lane cs rs es k all = ⊎_elim below beyond (order k n)
   where
@@ -344,7 +345,7 @@ answered-front shape lane cs rs es k all = ⊎_elim below beyond (order k n)
     beyond past =
         let j : ℕ = k - n in
         let at : n + j ≡ k = omega (arith, past) in
-        let left : Entries = drop (noted (take n rs)) es in
+        let left : ToldNotes = drop (noted (take n rs)) es in
         subst (λ (i : ℕ). AreAnswered shape lane (take i cs) (take i rs) es) at
         ((first-stopped shape lane cs rs es n refl j parts.running).1 (record {
           counted = omega (arith, parts.stopped.counted, noted-front (drop n rs) j);

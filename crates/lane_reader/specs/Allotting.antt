@@ -6,7 +6,7 @@ use Rattle.pool_law.specs.declared.run.Shape.{Shape}
 use Rattle.pool_law.specs.declared.run.Reply.{Reply}
 use Rattle.pool_law.specs.Composites.{Composite}
 use Rattle.pool_law.specs.Lanes.{release_parts}
-use Rattle.pool_law.specs.Readers.{Entries, Reader, ◌>>◌, give}
+use Rattle.pool_law.specs.Readers.{ToldNotes, Reader, ◌>>◌, give}
 use Rattle.pool_law.specs.Patterns.{New}
 use Rattle.lane_reader.specs.declared.log.Log.{Log}
 use Rattle.lane_reader.specs.declared.log.At.{At}
@@ -16,7 +16,7 @@ use Rattle.lane_reader.specs.Reading.{log_from}
 
 -- a root that is born, and the log behind it
 abbrev pub reads_birth :
-    Entries → Log → Option (RootId × RegionId × At) →
+    ToldNotes → Log → Option (RootId × RegionId × At) →
     Option (RootId × Rattle.pool_law.specs.Readers.Log)
 reads_birth before log o = option_map (λ p. (p.0, log_from before log p.2)) o
 
@@ -28,7 +28,7 @@ new_or_reply Allotted.Full = Err Reply.Full
 
 -- an allocation that is read, and the log behind it
 abbrev pub reads_new :
-    Entries → Log → Option (Allotted × At) →
+    ToldNotes → Log → Option (Allotted × At) →
     Option (Result New Reply × Rattle.pool_law.specs.Readers.Log)
 reads_new before log o = option_map (λ p. (new_or_reply p.0, log_from before log p.1)) o
 
@@ -39,7 +39,7 @@ reply_to Released.Freed = Reply.Freed
 
 -- a release that is read, and the log behind it
 abbrev pub reads_release :
-    Entries → Log → Option (Released × At) →
+    ToldNotes → Log → Option (Released × At) →
     Option (Reply × Rattle.pool_law.specs.Readers.Log)
 reads_release before log o = option_map (λ p. (reply_to p.0, log_from before log p.1)) o
 

@@ -5,7 +5,7 @@ use Rattle.pool_law.specs.declared.run.Shape.{Shape}
 use Rattle.pool_law.specs.Composites.{Composite, most_parts, moved_to}
 use Rattle.pool_law.specs.LaneStates.{LaneState}
 use Rattle.pool_law.specs.Lanes.{Answer, consolidate, composed}
-use Rattle.pool_law.specs.Readers.{Entries, Reader, ◌>>=◌, give, given}
+use Rattle.pool_law.specs.Readers.{ToldNotes, Reader, ◌>>=◌, give, given}
 use Rattle.lane_reader.specs.declared.log.Log.{Log}
 use Rattle.lane_reader.specs.declared.log.At.{At}
 use Rattle.lane_reader.specs.declared.composite.Made.{Made}
@@ -20,7 +20,7 @@ made_of c Made.Full = Err Reply.Full
 
 -- what is read, and the log behind it
 abbrev pub reads_made :
-    Composite → Entries → Log → Option (Made × At) →
+    Composite → ToldNotes → Log → Option (Made × At) →
     Option (Result Composite Reply × Rattle.pool_law.specs.Readers.Log)
 reads_made c before log o = option_map (λ p. (made_of c p.0, log_from before log p.1)) o
 

@@ -6,7 +6,7 @@ use Rattle.std.specs.BTreeMap.{get}
 use Rattle.pool_law.specs.declared.id.RootId.{RootId}
 use Rattle.pool_law.specs.declared.note.Note.{Note}
 use Rattle.pool_law.specs.Counts.{note_gains, note_loses, count_of}
-use Rattle.pool_law.specs.Readers.{Entries}
+use Rattle.pool_law.specs.Readers.{ToldNotes}
 use Rattle.lane_reader.specs.declared.counts.Counts.{Counts}
 
 -- the order of the keys
@@ -26,7 +26,7 @@ abbrev pub count_after : RootId → ℕ → Note → ℕ
 count_after root k n = if note_gains root n then k + 1 else if note_loses root n then k - 1 else k
 
 -- the counts are those of a lane that has noted this
-abbrev pub AreCounts : Counts → Entries → Type 0
+abbrev pub AreCounts : Counts → ToldNotes → Type 0
 AreCounts counts es = (root : RootId) → count_of root es ≡ count_in counts root
 
 -- no root is counted more often than so many notes can

@@ -8,14 +8,14 @@ use Rattle.pool_law.specs.Same.{same_bytes}
 use Rattle.pool_law.specs.Composites.{filled}
 use Rattle.pool_law.specs.Lanes.{copy_parts, release_parts}
 use Rattle.pool_law.specs.Dids as says
-use Rattle.pool_law.specs.Readers.{Entries, Reader, ◌>>=◌, ◌>>◌, give, nothing, access}
+use Rattle.pool_law.specs.Readers.{ToldNotes, Reader, ◌>>=◌, ◌>>◌, give, nothing, access}
 use Rattle.lane_reader.specs.declared.log.Log.{Log}
 use Rattle.lane_reader.specs.declared.log.At.{At}
 use Rattle.lane_reader.specs.Reading.{log_from}
 
 -- bytes that are read, and the log behind them
 abbrev pub reads_bytes :
-    Entries → Log → Option (Bor (List ℕ) × At) →
+    ToldNotes → Log → Option (Bor (List ℕ) × At) →
     Option (List ℕ × Rattle.pool_law.specs.Readers.Log)
 reads_bytes before log o = option_map (λ p. (p.0.now, log_from before log p.1)) o
 

@@ -7,7 +7,7 @@ use Rattle.pool_law.specs.declared.run.Shape.{Shape}
 use Rattle.pool_law.specs.LaneStates.{LaneState, new_lane}
 use Rattle.pool_law.specs.LaneLaw.{sweep_period, lane_step, lane_run, stopped_run, pieces, note_counts, replies_in}
 use Rattle.pool_law.specs.Lanes.{not_carried_out, answer}
-use Rattle.pool_law.specs.Readers.{Entries, Reader, ◌>>◌, give}
+use Rattle.pool_law.specs.Readers.{ToldNotes, Reader, ◌>>◌, give}
 use Rattle.lane_reader.specs.declared.log.Log.{Log}
 use Rattle.lane_reader.specs.declared.bound.Change.{Change}
 use Rattle.lane_reader.specs.declared.lane.Lane.{Lane}
@@ -42,14 +42,14 @@ Turns setting lane command reply log got =
 
 -- these are the notes and replies of commands, one after another, from a state on
 abbrev pub Runs :
-    Shape → ℕ → LaneState → List Command → List Answered → Entries → LaneState → Type 0
+    Shape → ℕ → LaneState → List Command → List Answered → ToldNotes → LaneState → Type 0
 Runs shape lane s commands replies es last =
     lane_run sweep_period shape lane s commands (pieces (note_counts replies) es)
     ≡ Some (replies_in replies, last)
 
 -- they are those of a new lane; more notes may follow
 pub record HasRun
-    (shape : Shape) (lane : ℕ) (commands : List Command) (replies : List Answered) (es : Entries) :
+    (shape : Shape) (lane : ℕ) (commands : List Command) (replies : List Answered) (es : ToldNotes) :
     Type 0
   where
     pub counted : sum (note_counts replies) ≤ length es
@@ -57,20 +57,20 @@ pub record HasRun
     pub runs : Runs shape lane new_lane commands replies es last
 
 -- these are the notes and replies of the commands of a stopped lane
-abbrev pub Stops : ℕ → List Command → List Answered → Entries → Type 0
+abbrev pub Stops : ℕ → List Command → List Answered → ToldNotes → Type 0
 Stops lane commands replies es =
     stopped_run lane commands (pieces (note_counts replies) es) ≡ Some (replies_in replies)
 
 -- the same; more notes may follow
 pub record HasStopped
-    (lane : ℕ) (commands : List Command) (replies : List Answered) (es : Entries) : Type 0
+    (lane : ℕ) (commands : List Command) (replies : List Answered) (es : ToldNotes) : Type 0
   where
     pub counted : sum (note_counts replies) ≤ length es
     pub stops : Stops lane commands replies es
 
 -- so far the commands, with their replies and notes, are of this kind
 abbrev pub Reaches :
-    (List Command → List Answered → Entries → Type 0) → List Command → List Answered → Log →
+    (List Command → List Answered → ToldNotes → Type 0) → List Command → List Answered → Log →
     Reach → Type 0
 Reaches P commands replies log (Reach.Whole behind) =
     P commands replies (entries log)

@@ -6,7 +6,7 @@ use Rattle.pool_law.specs.Refusals.{first_refusal, refusals}
 use Rattle.pool_law.specs.LaneStates.{LaneState}
 use Rattle.pool_law.specs.LaneLaw.{sweep_period, lane_step}
 use Rattle.pool_law.specs.Lanes.{carried_out, answer_of}
-use Rattle.pool_law.specs.Readers.{Entries}
+use Rattle.pool_law.specs.Readers.{ToldNotes}
 use Rattle.lane_reader.specs.declared.log.Log.{Log}
 use Rattle.lane_reader.specs.declared.log.At.{At}
 use Rattle.lane_reader.specs.declared.bound.Change.{Change}
@@ -48,7 +48,7 @@ Answers setting lane command reply log at got =
 
 -- exactly these are the notes of a command with this reply, and this is the lane behind it
 pub record HasTurned
-    (setting : Setting) (s : LaneState) (command : Command) (reply : Reply) (es : Entries)
+    (setting : Setting) (s : LaneState) (command : Command) (reply : Reply) (es : ToldNotes)
     (lane : Lane) : Type 0
   where
     pub next : LaneState
@@ -57,7 +57,7 @@ pub record HasTurned
     pub is : IsLane lane next
 
 -- they are not
-abbrev pub HasNotTurned : Setting → LaneState → Command → Reply → Entries → Type 0
+abbrev pub HasNotTurned : Setting → LaneState → Command → Reply → ToldNotes → Type 0
 HasNotTurned setting s command reply es =
     (next : LaneState) →
     lane_step sweep_period setting.shape.now setting.lane s command es ≡ Some (reply, next) → ⊥

@@ -3,13 +3,13 @@ use Rattle.std.specs.Prelude.{◌≡◌, ℕ, suc, ◌<◌, ◌≤◌, List, len
 use Rattle.pool_law.specs.declared.command.Command.{Command}
 use Rattle.pool_law.specs.declared.run.Shape.{Shape}
 use Rattle.pool_law.specs.declared.run.Answered.{Answered}
-use Rattle.pool_law.specs.Readers.{Entries}
+use Rattle.pool_law.specs.Readers.{ToldNotes}
 use Rattle.pool_law.specs.LaneStates.{LaneState, new_lane}
 use Rattle.pool_law.specs.LaneLaw.{sweep_period, lane_run, stopped_run, before_stop, pieces, note_counts, replies_in, IsLaneLog}
 
 -- these commands have these replies, and the first of these notes, up to a stop and behind it
 pub record AreAnswered
-    (shape : Shape) (lane : ℕ) (commands : List Command) (replies : List Answered) (es : Entries) :
+    (shape : Shape) (lane : ℕ) (commands : List Command) (replies : List Answered) (es : ToldNotes) :
     Type 0
   where
     pub counted : sum (note_counts replies) ≤ length es
@@ -27,7 +27,7 @@ pub record AreAnswered
 -- the first so many commands have their replies and notes, and no longer with the next; where they
 -- are all, what stands behind them is wrong
 pub record IsUnlikeAt
-    (shape : Shape) (lane : ℕ) (commands : List Command) (replies : List Answered) (es : Entries)
+    (shape : Shape) (lane : ℕ) (commands : List Command) (replies : List Answered) (es : ToldNotes)
     (at : ℕ) : Type 0
   where
     pub within : at ≤ length commands

@@ -3,7 +3,7 @@
 ghost use Rattle.std.specs.Prelude.{◌≡◌, ℕ, List, length, map};
 ghost use Rattle.pool_law.specs.Names.{parts_at};
 ghost use Rattle.pool_law.specs.Lanes.{set_parts, get_parts};
-ghost use Rattle.pool_law.specs.Readers.{Entries};
+ghost use Rattle.pool_law.specs.Readers.{ToldNotes};
 ghost use Rattle.lane_reader.specs.Reading.{log_from, passes};
 ghost use Rattle.lane_reader.specs.Viewing.{bound_of, updated};
 ghost use Rattle.lane_reader.specs.Parting.{where_same};
@@ -113,7 +113,7 @@ impl Bound {
 impl Log<'_> {
     /// The bytes are set at an index of what is bound.
     pub(crate) fn set_at(&self, at: At, bound: &Bound, index: u32, bytes: &[u8]) -> Option<At>
-        ensures { (before : Entries) → set_parts
+        ensures { (before : ToldNotes) → set_parts
             (parts_at (bound_of bound.now) index (length bytes.now)) bytes.now
             (log_from before self.now at) ≡ passes before self.now result }
     {
@@ -134,7 +134,7 @@ impl Log<'_> {
         len: u32,
         these: &[u8],
     ) -> Option<At>
-        ensures { (before : Entries) → where_same these.now (get_parts
+        ensures { (before : ToldNotes) → where_same these.now (get_parts
             (parts_at (bound_of bound.now) index len) (log_from before self.now at))
             ≡ passes before self.now result }
     {

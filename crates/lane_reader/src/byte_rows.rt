@@ -5,7 +5,7 @@ ghost use Rattle.std.specs.Prelude.{Some, None, IfSome};
 ghost use Rattle.pool_law.specs.declared.command.Command.{Command};
 ghost use Rattle.pool_law.specs.Lanes.{get_parts};
 ghost use Rattle.pool_law.specs.Names.{has_to_read, has_room, parts_at, reader_of, writer_of};
-ghost use Rattle.pool_law.specs.Readers.{Entries};
+ghost use Rattle.pool_law.specs.Readers.{ToldNotes};
 ghost use Rattle.lane_reader.specs.declared.setting.Setting.{Setting};
 ghost use Rattle.lane_reader.specs.Bounding.{IsBounded, AreBounded, ChangeIsBounded};
 ghost use Rattle.lane_reader.specs.Reading.{log_from, passes};
@@ -136,7 +136,7 @@ impl Log<'_> {
 
     // So many bytes are got at an index of what is bound, and are answered.
     fn got(&self, at: At, bound: &Bound, index: u32, len: u32, reply: &Reply) -> Option<At>
-        ensures { (before : Entries) → where_got reply.now (get_parts
+        ensures { (before : ToldNotes) → where_got reply.now (get_parts
             (parts_at (bound_of bound.now) index len) (log_from before self.now at))
             ≡ passes before self.now result }
     {

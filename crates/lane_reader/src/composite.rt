@@ -6,7 +6,7 @@ ghost use Rattle.pool_law.specs.Limits.{geometry_of};
 ghost use Rattle.pool_law.specs.LaneLaw.{sweep_period};
 ghost use Rattle.pool_law.specs.Composites.{size_of, most_bytes};
 ghost use Rattle.pool_law.specs.Lanes.{release_part, release_parts, consolidate};
-ghost use Rattle.pool_law.specs.Readers.{Entries};
+ghost use Rattle.pool_law.specs.Readers.{ToldNotes};
 ghost use Rattle.lane_reader.specs.Reading.{log_from, passes};
 ghost use Rattle.lane_reader.specs.Viewing.{part_of, composite_in};
 ghost use Rattle.lane_reader.specs.Counting.{AreCounts, AreWithin};
@@ -79,7 +79,7 @@ impl Log<'_> {
     fn release_part(&self, at: At, shape: &Shape, counts: &Counts, part: &Range) -> Option<At>
         requires handles { 1 ≤ shape.now.handles }
         requires room { AreWithin counts.now (2 ^ 64 - 1 - length self.now.notes.now) }
-        ensures { (before : Entries) → AreCounts counts.now before → release_part shape.now
+        ensures { (before : ToldNotes) → AreCounts counts.now before → release_part shape.now
             (part_of part.now) (log_from before self.now at) ≡ passes before self.now result }
     {
         let first = counts.of(&part.root);
@@ -100,7 +100,7 @@ impl Log<'_> {
     ) -> Option<At>
         requires handles { 1 ≤ shape.now.handles }
         requires room { AreWithin counts.now (2 ^ 64 - 1 - length self.now.notes.now) }
-        ensures { (before : Entries) → AreCounts counts.now before → release_parts shape.now
+        ensures { (before : ToldNotes) → AreCounts counts.now before → release_parts shape.now
             (map part_of parts.now) (log_from before self.now at)
             ≡ passes before self.now result }
     {
@@ -123,7 +123,8 @@ impl Log<'_> {
         requires handles { 1 ≤ shape.now.handles }
         requires room { AreWithin counts.now (2 ^ 64 - 1 - length self.now.notes.now) }
         requires parts { length parts.now ≤ 32 }
-        ensures { (before : Entries) → AreCounts counts.now before → moved_parts shape.now root.now
+        ensures { (before : ToldNotes) → AreCounts counts.now before →
+            moved_parts shape.now root.now
             (map part_of parts.now) (log_from before self.now at)
             ≡ passes before self.now result }
     {
@@ -148,7 +149,7 @@ impl Log<'_> {
         requires room { AreWithin counts.now (2 ^ 64 - 1 - length self.now.notes.now) }
         requires parts { vec_len composite.now.parts ≤ 32 }
         requires size { size_of (map part_of composite.now.parts.items) ≤ most_bytes }
-        ensures reads { (before : Entries) → AreCounts counts.now before → consolidate shape.now
+        ensures reads { (before : ToldNotes) → AreCounts counts.now before → consolidate shape.now
             lane (composite_in composite.now) (log_from before self.now at)
             ≡ reads_made (composite_in composite.now) before self.now result }
         ensures short { IfSome result (λ p. IsShort (vec_len composite.now.parts) p.0) }

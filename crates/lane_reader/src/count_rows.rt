@@ -2,7 +2,7 @@
 
 ghost use Rattle.std.specs.Prelude.{◌≡◌, ◌+◌, ◌-◌, ◌≤◌, ◌^◌, ℕ, length, IfSome};
 ghost use Rattle.pool_law.specs.declared.command.Command.{Command};
-ghost use Rattle.pool_law.specs.Readers.{Entries};
+ghost use Rattle.pool_law.specs.Readers.{ToldNotes};
 ghost use Rattle.lane_reader.specs.Allotting.{reply_to, reads_release, release_whole};
 ghost use Rattle.lane_reader.specs.Bounding.{AreBounded, ChangeIsBounded};
 ghost use Rattle.lane_reader.specs.Counting.{AreCounts, AreWithin};
@@ -67,7 +67,7 @@ impl Log<'_> {
     ) -> Option<(Released, At)>
         requires handles { 1 ≤ shape.now.handles }
         requires room { AreWithin counts.now (2 ^ 64 - 1 - length self.now.notes.now) }
-        ensures { (before : Entries) → AreCounts counts.now before → release_whole shape.now
+        ensures { (before : ToldNotes) → AreCounts counts.now before → release_whole shape.now
             (composite_in composite.now) (log_from before self.now at)
             ≡ reads_release before self.now result }
     {

@@ -4,7 +4,7 @@ ghost use Rattle.std.specs.Prelude.{◌≡◌, ◌<◌, List, ℕ, IfSome};
 ghost use Rattle.size_classes.specs.Sizes.{below};
 ghost use Rattle.pool_law.specs.LaneLaw.{sweep_period};
 ghost use Rattle.pool_law.specs.Patterns.{sheds, drain, sweep_if_due, closing};
-ghost use Rattle.pool_law.specs.Readers.{Entries, note};
+ghost use Rattle.pool_law.specs.Readers.{ToldNotes, note};
 ghost use Rattle.lane_reader.specs.Reading.{log_from, reads, passes};
 ghost use Rattle.lane_reader.specs.Draining.{quota_of, shed_one, drain_one};
 
@@ -27,7 +27,8 @@ pub(crate) enum Drain {
 impl Log<'_> {
     // The quota that a cache notes.
     fn quota(&self, at: At, cache: &Object, kind: Drain) -> Option<(u32, At)>
-        ensures { (before : Entries) → note cache.now (quota_of kind) (log_from before self.now at)
+        ensures { (before : ToldNotes) →
+            note cache.now (quota_of kind) (log_from before self.now at)
             ≡ reads before self.now result }
     {
         match kind {
@@ -38,7 +39,7 @@ impl Log<'_> {
 
     // One region leaves the cache, for its arena.
     fn shed_one(&self, at: At, lane: u32, class: u32) -> Option<At>
-        ensures { (before : Entries) → shed_one lane class (log_from before self.now at)
+        ensures { (before : ToldNotes) → shed_one lane class (log_from before self.now at)
             ≡ passes before self.now result }
     {
         let (region, behind) = self.shed(at, &Object::Cache { lane, class })?;
@@ -47,7 +48,7 @@ impl Log<'_> {
 
     // So many regions leave the cache.
     fn sheds(&self, at: At, lane: u32, class: u32, count: u32) -> Option<At>
-        ensures { (before : Entries) → sheds lane class count (log_from before self.now at)
+        ensures { (before : ToldNotes) → sheds lane class count (log_from before self.now at)
             ≡ passes before self.now result }
     {
         let mut here = at;
@@ -59,7 +60,7 @@ impl Log<'_> {
 
     // The cache notes a quota, and so many regions leave it.
     fn drain_one(&self, at: At, lane: u32, class: u32, kind: Drain) -> Option<At>
-        ensures { (before : Entries) → drain_one lane (quota_of kind) class
+        ensures { (before : ToldNotes) → drain_one lane (quota_of kind) class
             (log_from before self.now at) ≡ passes before self.now result }
     {
         let (quota, behind) = self.quota(at, &Object::Cache { lane, class }, kind)?;
@@ -68,7 +69,7 @@ impl Log<'_> {
 
     // Each cache notes a quota, and so many regions leave it.
     fn drain(&self, at: At, lane: u32, kind: Drain) -> Option<At>
-        ensures { (before : Entries) (classes : List ℕ) → classes ≡ below 40
+        ensures { (before : ToldNotes) (classes : List ℕ) → classes ≡ below 40
             → drain lane (quota_of kind) classes (log_from before self.now at)
             ≡ passes before self.now result }
     {
@@ -81,7 +82,7 @@ impl Log<'_> {
 
     /// The sweep that is due once so many allocations asked a cache.
     pub(crate) fn sweep_if_due(&self, at: At, lane: u32) -> Option<At>
-        ensures reads { (before : Entries) → sweep_if_due sweep_period lane
+        ensures reads { (before : ToldNotes) → sweep_if_due sweep_period lane
             (log_from before self.now at) ≡ passes before self.now result }
         ensures few { IfSome result (λ behind. behind.asked < sweep_period) }
     {
@@ -97,7 +98,7 @@ impl Log<'_> {
 
     /// The last notes of a lane: each cache is closed.
     pub(crate) fn closing(&self, at: At, lane: u32) -> Option<At>
-        ensures { (before : Entries) → closing lane (log_from before self.now at)
+        ensures { (before : ToldNotes) → closing lane (log_from before self.now at)
             ≡ passes before self.now result }
     {
         self.drain(at, lane, Drain::Close)

@@ -7,7 +7,7 @@ ghost use Rattle.pool_law.specs.LaneLaw.{sweep_period};
 ghost use Rattle.pool_law.specs.Limits.{geometry_of};
 ghost use Rattle.pool_law.specs.Options.{check};
 ghost use Rattle.pool_law.specs.Patterns.{one_more, found_room, grown, grow_with, regrow};
-ghost use Rattle.pool_law.specs.Readers.{Entries, access, growth};
+ghost use Rattle.pool_law.specs.Readers.{ToldNotes, access, growth};
 ghost use Rattle.lane_reader.specs.Bounding.{ChangeIsBounded};
 ghost use Rattle.lane_reader.specs.Growing.{reads_grown, reads_regrown};
 ghost use Rattle.lane_reader.specs.Reading.{log_from, reads, passes};
@@ -49,7 +49,7 @@ impl Log<'_> {
     // The capacity that is found where so much is asked.
     #[tactic(auto, using(crate::proofs::ReadingLemmas::access_says))]
     fn room(&self, at: At, root: &RootId, size: u32) -> Option<(u32, At)>
-        ensures { (before : Entries) → access root.now (says.room size)
+        ensures { (before : ToldNotes) → access root.now (says.room size)
             (log_from before self.now at) ≡ reads before self.now result }
     {
         match self.access(at, root)? {
@@ -63,7 +63,7 @@ impl Log<'_> {
     // The root is extended to so much in its region.
     #[tactic(auto, using(crate::proofs::ReadingLemmas::access_says))]
     fn extend(&self, at: At, root: &RootId, size: u32) -> Option<At>
-        ensures { (before : Entries) → access root.now (says.extend size)
+        ensures { (before : ToldNotes) → access root.now (says.extend size)
             (log_from before self.now at) ≡ passes before self.now result }
     {
         match self.access(at, root)? {
@@ -74,7 +74,7 @@ impl Log<'_> {
 
     // The capacity of a root once so much was asked: what is found, or what its region lets it have.
     fn found_room(&self, at: At, root: &RootId, size: u32) -> Option<(u32, At)>
-        ensures { (before : Entries) → found_room root.now size (log_from before self.now at)
+        ensures { (before : ToldNotes) → found_room root.now size (log_from before self.now at)
             ≡ reads before self.now result }
     {
         if let Some(behind) = self.extend(at, root, size) {
@@ -85,7 +85,7 @@ impl Log<'_> {
 
     // The region that a root leaves as it grows to so much, with one more use of this one.
     fn growth(&self, at: At, root: &RootId, size: u32, region: &RegionId) -> Option<(RegionId, At)>
-        ensures { (before : Entries) → growth root.now size (one_more region.now)
+        ensures { (before : ToldNotes) → growth root.now size (one_more region.now)
             (log_from before self.now at) ≡ reads before self.now result }
     {
         let next = self.next(at)?;
@@ -109,7 +109,7 @@ impl Log<'_> {
         size: u32,
         region: &RegionId,
     ) -> Option<(u32, RegionId, At)>
-        ensures { (before : Entries) → grown root.now size region.now
+        ensures { (before : ToldNotes) → grown root.now size region.now
             (log_from before self.now at) ≡ reads_grown before self.now result }
     {
         if let Some((left, behind)) = self.growth(at, root, size, region) {
@@ -127,7 +127,7 @@ impl Log<'_> {
         size: u32,
         region: Option<RegionId>,
     ) -> Option<(Regrown, At)>
-        ensures { (before : Entries) → grow_with root.now size region
+        ensures { (before : ToldNotes) → grow_with root.now size region
             (log_from before self.now at) ≡ reads_regrown before self.now result }
     {
         let Some(region) = region else {
@@ -154,7 +154,7 @@ impl Log<'_> {
         requires arenas { 1 ≤ shape.now.arenas }
         requires asked { at.asked < sweep_period }
         requires classes { classes.now ≡ geometry_of shape.now }
-        ensures { (before : Entries) → regrow shape.now lane root.now size
+        ensures { (before : ToldNotes) → regrow shape.now lane root.now size
             (log_from before self.now at) ≡ reads_regrown before self.now result }
     {
         let (capacity, behind) = self.found_room(at, root, size)?;

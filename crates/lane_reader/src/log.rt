@@ -2,18 +2,18 @@
 
 ghost use Rattle.std.specs.Prelude.{◌≡◌, [], drop, IsNone, IfSome};
 ghost use Rattle.std.specs.Option.{option_copied};
-ghost use Rattle.pool_law.specs.Readers.{Entries, done_at, done_to, marked, note, step, busy, access, ending};
+ghost use Rattle.pool_law.specs.Readers.{ToldNotes, done_at, done_to, marked, note, step, busy, access, ending};
 ghost use Rattle.pool_law.specs.Counts.{root_is};
 ghost use Rattle.lane_reader.specs.Reading.{entries, told_at, log_from, reads, reads_did, IsNext};
 
-use object_steps::Told;
+use object_steps::PlaceTold;
 use pool_law::{Did, Note, Object, RefDid, RegionId, RootId};
 
 /// Notes of a lane, oldest first, each with what is told of it.
 #[derive(Clone, Copy, Drop)]
 pub struct Log<'a> {
     pub notes: &'a [Note],
-    pub told: &'a [Told],
+    pub told: &'a [PlaceTold],
 }
 
 /// A place in a log: behind so many notes, and so many allocations that asked a cache since the last
@@ -28,7 +28,7 @@ pub(crate) struct At {
 #[derive(Clone, Copy, Drop)]
 pub(crate) struct Next<'a> {
     pub(crate) note: &'a Note,
-    pub(crate) told: Told,
+    pub(crate) told: PlaceTold,
     pub(crate) behind: At,
 }
 
@@ -84,13 +84,13 @@ pub(crate) fn root_is(root: &RootId, other: Option<RootId>) -> bool
 
 impl<'a> Log<'a> {
     // What is told of the note at a place.
-    fn told_at(&self, place: usize) -> Told
+    fn told_at(&self, place: usize) -> PlaceTold
         ensures { result ≡ told_at self.now place }
     {
         if place < self.told.len() {
             self.told[place]
         } else {
-            Told {
+            PlaceTold {
                 root: None,
                 region: None,
             }
@@ -100,7 +100,7 @@ impl<'a> Log<'a> {
     /// The next note.
     pub(crate) fn next(&self, at: At) -> Option<Next<'a>>
         ensures last { IsNone result → drop at.place (entries self.now) ≡ [] }
-        ensures next { (before : Entries) → IfSome result (IsNext before self.now at) }
+        ensures next { (before : ToldNotes) → IfSome result (IsNext before self.now at) }
     {
         if at.place >= self.notes.len() {
             return None;
@@ -118,7 +118,7 @@ impl<'a> Log<'a> {
 
     /// A note at the object.
     pub(crate) fn note(&self, at: At, object: &Object) -> Option<(&'a Did, At)>
-        ensures { (before : Entries) → note object.now Some (log_from before self.now at)
+        ensures { (before : ToldNotes) → note object.now Some (log_from before self.now at)
             ≡ reads_did before self.now result }
     {
         let next = self.next(at)?;
@@ -128,7 +128,7 @@ impl<'a> Log<'a> {
 
     /// A step on the word of the root.
     pub(crate) fn step(&self, at: At, root: &RootId) -> Option<(RefDid, At)>
-        ensures { (before : Entries) → step root.now Some (log_from before self.now at)
+        ensures { (before : ToldNotes) → step root.now Some (log_from before self.now at)
             ≡ reads before self.now result }
     {
         let next = self.next(at)?;
@@ -138,7 +138,7 @@ impl<'a> Log<'a> {
 
     /// A busy mark on the object, and its number.
     pub(crate) fn busy(&self, at: At, object: &Object) -> Option<(u64, At)>
-        ensures { (before : Entries) → busy object.now (log_from before self.now at)
+        ensures { (before : ToldNotes) → busy object.now (log_from before self.now at)
             ≡ reads before self.now result }
     {
         let next = self.next(at)?;
@@ -148,7 +148,7 @@ impl<'a> Log<'a> {
 
     /// A note at the place of this root, which is present there.
     pub(crate) fn access(&self, at: At, root: &RootId) -> Option<(&'a Did, At)>
-        ensures { (before : Entries) → access root.now Some (log_from before self.now at)
+        ensures { (before : ToldNotes) → access root.now Some (log_from before self.now at)
             ≡ reads_did before self.now result }
     {
         let next = self.next(at)?;
@@ -161,7 +161,7 @@ impl<'a> Log<'a> {
 
     /// The end of the root, and the region that it takes out.
     pub(crate) fn ending(&self, at: At, root: &RootId) -> Option<(RegionId, At)>
-        ensures { (before : Entries) → ending root.now (log_from before self.now at)
+        ensures { (before : ToldNotes) → ending root.now (log_from before self.now at)
             ≡ reads before self.now result }
     {
         let next = self.next(at)?;

@@ -4,7 +4,7 @@ ghost use Rattle.std.specs.Prelude.{◌≡◌, ℕ, IfSome};
 ghost use Rattle.pool_law.specs.declared.command.Command.{Command};
 ghost use Rattle.pool_law.specs.Dids as says;
 ghost use Rattle.pool_law.specs.Lanes.{parcel_of};
-ghost use Rattle.pool_law.specs.Readers.{Entries, note};
+ghost use Rattle.pool_law.specs.Readers.{ToldNotes, note};
 ghost use Rattle.lane_reader.specs.Bounding.{ChangeIsBounded};
 ghost use Rattle.lane_reader.specs.Reading.{log_from, passes};
 ghost use Rattle.lane_reader.specs.Turning.{Carries};
@@ -22,7 +22,7 @@ impl Log<'_> {
     // The parcel with the view is posted.
     #[tactic(auto, using(crate::proofs::ReadingLemmas::note_says))]
     fn post_view(&self, at: At, object: &Object, view: &View) -> Option<At>
-        ensures { (before : Entries) → note object.now (says.post (parcel_of (data_of view.now)))
+        ensures { (before : ToldNotes) → note object.now (says.post (parcel_of (data_of view.now)))
             (log_from before self.now at) ≡ passes before self.now result }
     {
         match self.note(at, object)? {

@@ -3,7 +3,7 @@
 
 ghost use Rattle.std.specs.Prelude.{◌≡◌};
 ghost use Rattle.pool_law.specs.Dids as says;
-ghost use Rattle.pool_law.specs.Readers.{Entries, note, step};
+ghost use Rattle.pool_law.specs.Readers.{ToldNotes, note, step};
 ghost use Rattle.lane_reader.specs.Reading.{log_from, reads, passes};
 
 use crate::log::{At, Log};
@@ -12,7 +12,7 @@ use pool_law::{Did, Object, Parcel, RefDid, RegionId, RootId};
 impl Log<'_> {
     /// The region of a hit.
     pub(crate) fn hit(&self, at: At, object: &Object) -> Option<(RegionId, At)>
-        ensures { (before : Entries) → note object.now says.hit (log_from before self.now at)
+        ensures { (before : ToldNotes) → note object.now says.hit (log_from before self.now at)
             ≡ reads before self.now result }
     {
         match self.note(at, object)? {
@@ -23,7 +23,7 @@ impl Log<'_> {
 
     /// The cache is empty.
     pub(crate) fn miss(&self, at: At, object: &Object) -> Option<At>
-        ensures { (before : Entries) → note object.now says.miss (log_from before self.now at)
+        ensures { (before : ToldNotes) → note object.now says.miss (log_from before self.now at)
             ≡ passes before self.now result }
     {
         match self.note(at, object)? {
@@ -34,7 +34,7 @@ impl Log<'_> {
 
     /// The region of a take of the class.
     pub(crate) fn take(&self, at: At, object: &Object, class: u32) -> Option<(RegionId, At)>
-        ensures { (before : Entries) →
+        ensures { (before : ToldNotes) →
             note object.now (says.take class) (log_from before self.now at)
             ≡ reads before self.now result }
     {
@@ -52,7 +52,7 @@ impl Log<'_> {
 
     /// The arena has nothing of the class.
     pub(crate) fn full(&self, at: At, object: &Object, class: u32) -> Option<At>
-        ensures { (before : Entries) →
+        ensures { (before : ToldNotes) →
             note object.now (says.full class) (log_from before self.now at)
             ≡ passes before self.now result }
     {
@@ -64,7 +64,8 @@ impl Log<'_> {
 
     /// The bin is empty.
     pub(crate) fn no_handle(&self, at: At, object: &Object) -> Option<At>
-        ensures { (before : Entries) → note object.now says.no_handle (log_from before self.now at)
+        ensures { (before : ToldNotes) →
+            note object.now says.no_handle (log_from before self.now at)
             ≡ passes before self.now result }
     {
         match self.note(at, object)? {
@@ -75,7 +76,7 @@ impl Log<'_> {
 
     /// The place of a handle.
     pub(crate) fn handle(&self, at: At, object: &Object) -> Option<(u32, At)>
-        ensures { (before : Entries) → note object.now says.handle (log_from before self.now at)
+        ensures { (before : ToldNotes) → note object.now says.handle (log_from before self.now at)
             ≡ reads before self.now result }
     {
         match self.note(at, object)? {
@@ -86,7 +87,7 @@ impl Log<'_> {
 
     /// This place comes home.
     pub(crate) fn home(&self, at: At, object: &Object, place: u32) -> Option<At>
-        ensures { (before : Entries) →
+        ensures { (before : ToldNotes) →
             note object.now (says.home place) (log_from before self.now at)
             ≡ passes before self.now result }
     {
@@ -99,7 +100,7 @@ impl Log<'_> {
     /// This region comes back.
     #[tactic(auto, using(crate::proofs::ReadingLemmas::note_says, crate::proofs::RegionLemmas::region_tests))]
     pub(crate) fn given(&self, at: At, object: &Object, region: &RegionId) -> Option<At>
-        ensures { (before : Entries) →
+        ensures { (before : ToldNotes) →
             note object.now (says.give region.now) (log_from before self.now at)
             ≡ passes before self.now result }
     {
@@ -112,7 +113,7 @@ impl Log<'_> {
     /// This region is kept.
     #[tactic(auto, using(crate::proofs::ReadingLemmas::note_says, crate::proofs::RegionLemmas::region_tests))]
     pub(crate) fn kept(&self, at: At, object: &Object, region: &RegionId) -> Option<At>
-        ensures { (before : Entries) →
+        ensures { (before : ToldNotes) →
             note object.now (says.kept region.now) (log_from before self.now at)
             ≡ passes before self.now result }
     {
@@ -124,7 +125,7 @@ impl Log<'_> {
 
     /// This region is sent back.
     pub(crate) fn back(&self, at: At, object: &Object, region: &RegionId) -> Option<At>
-        ensures { (before : Entries) →
+        ensures { (before : ToldNotes) →
             note object.now (says.back region.now) (log_from before self.now at)
             ≡ passes before self.now result }
     {
@@ -142,7 +143,7 @@ impl Log<'_> {
 
     /// The region of a shed.
     pub(crate) fn shed(&self, at: At, object: &Object) -> Option<(RegionId, At)>
-        ensures { (before : Entries) → note object.now says.shed (log_from before self.now at)
+        ensures { (before : ToldNotes) → note object.now says.shed (log_from before self.now at)
             ≡ reads before self.now result }
     {
         match self.note(at, object)? {
@@ -153,7 +154,7 @@ impl Log<'_> {
 
     /// The quota of a trim.
     pub(crate) fn trim(&self, at: At, object: &Object) -> Option<(u32, At)>
-        ensures { (before : Entries) → note object.now says.trim (log_from before self.now at)
+        ensures { (before : ToldNotes) → note object.now says.trim (log_from before self.now at)
             ≡ reads before self.now result }
     {
         match self.note(at, object)? {
@@ -164,7 +165,7 @@ impl Log<'_> {
 
     /// The quota of a close.
     pub(crate) fn close(&self, at: At, object: &Object) -> Option<(u32, At)>
-        ensures { (before : Entries) → note object.now says.close (log_from before self.now at)
+        ensures { (before : ToldNotes) → note object.now says.close (log_from before self.now at)
             ≡ reads before self.now result }
     {
         match self.note(at, object)? {
@@ -175,7 +176,7 @@ impl Log<'_> {
 
     /// This parcel is posted.
     pub(crate) fn post(&self, at: At, object: &Object, parcel: &Parcel) -> Option<At>
-        ensures { (before : Entries) →
+        ensures { (before : ToldNotes) →
             note object.now (says.post parcel.now) (log_from before self.now at)
             ≡ passes before self.now result }
     {
@@ -187,7 +188,7 @@ impl Log<'_> {
 
     /// The parcel of a fetch.
     pub(crate) fn fetch(&self, at: At, object: &Object) -> Option<(Parcel, At)>
-        ensures { (before : Entries) → note object.now says.fetch (log_from before self.now at)
+        ensures { (before : ToldNotes) → note object.now says.fetch (log_from before self.now at)
             ≡ reads before self.now result }
     {
         match self.note(at, object)? {
@@ -198,7 +199,7 @@ impl Log<'_> {
 
     /// The word is set.
     pub(crate) fn born(&self, at: At, root: &RootId) -> Option<At>
-        ensures { (before : Entries) → step root.now says.born (log_from before self.now at)
+        ensures { (before : ToldNotes) → step root.now says.born (log_from before self.now at)
             ≡ passes before self.now result }
     {
         match self.step(at, root)? {
@@ -209,7 +210,7 @@ impl Log<'_> {
 
     /// A count is added.
     pub(crate) fn retain(&self, at: At, root: &RootId) -> Option<At>
-        ensures { (before : Entries) → step root.now says.retain (log_from before self.now at)
+        ensures { (before : ToldNotes) → step root.now says.retain (log_from before self.now at)
             ≡ passes before self.now result }
     {
         match self.step(at, root)? {
@@ -220,7 +221,7 @@ impl Log<'_> {
 
     /// A count is taken away, and others stay.
     pub(crate) fn count_kept(&self, at: At, root: &RootId) -> Option<At>
-        ensures { (before : Entries) → step root.now says.count_kept (log_from before self.now at)
+        ensures { (before : ToldNotes) → step root.now says.count_kept (log_from before self.now at)
             ≡ passes before self.now result }
     {
         match self.step(at, root)? {
@@ -231,7 +232,7 @@ impl Log<'_> {
 
     /// The last count is taken away.
     pub(crate) fn ended(&self, at: At, root: &RootId) -> Option<At>
-        ensures { (before : Entries) → step root.now says.ended (log_from before self.now at)
+        ensures { (before : ToldNotes) → step root.now says.ended (log_from before self.now at)
             ≡ passes before self.now result }
     {
         match self.step(at, root)? {
@@ -242,7 +243,7 @@ impl Log<'_> {
 
     /// The word is vacated.
     pub(crate) fn vacated(&self, at: At, root: &RootId) -> Option<At>
-        ensures { (before : Entries) → step root.now says.vacated (log_from before self.now at)
+        ensures { (before : ToldNotes) → step root.now says.vacated (log_from before self.now at)
             ≡ passes before self.now result }
     {
         match self.step(at, root)? {
@@ -253,7 +254,7 @@ impl Log<'_> {
 
     /// The count that is looked up.
     pub(crate) fn look(&self, at: At, root: &RootId) -> Option<(u32, At)>
-        ensures { (before : Entries) → step root.now says.look (log_from before self.now at)
+        ensures { (before : ToldNotes) → step root.now says.look (log_from before self.now at)
             ≡ reads before self.now result }
     {
         match self.step(at, root)? {

@@ -4,7 +4,7 @@
 ghost use Rattle.std.specs.Prelude.{◌≡◌, ◌+◌, ◌≤◌, ◌^◌, length, map, take};
 ghost use Rattle.pool_law.specs.Dids as says;
 ghost use Rattle.pool_law.specs.Composites.{ranges, filled};
-ghost use Rattle.pool_law.specs.Readers.{Entries, access};
+ghost use Rattle.pool_law.specs.Readers.{ToldNotes, access};
 ghost use Rattle.pool_law.specs.Lanes.{set_parts, get_parts, copy_parts};
 ghost use Rattle.lane_reader.specs.Reading.{log_from, passes};
 ghost use Rattle.lane_reader.specs.Viewing.{part_of};
@@ -19,7 +19,7 @@ use pool_law::{Did, RootId};
 impl<'a> Log<'a> {
     /// These bytes are set at the offset of the root.
     pub(crate) fn set(&self, at: At, root: &RootId, offset: u64, bytes: &[u8]) -> Option<At>
-        ensures { (before : Entries) → access root.now (says.set offset bytes.now)
+        ensures { (before : ToldNotes) → access root.now (says.set offset bytes.now)
             (log_from before self.now at) ≡ passes before self.now result }
     {
         match self.access(at, root)? {
@@ -36,7 +36,7 @@ impl<'a> Log<'a> {
 
     /// The bytes that are got at the offset of the root, which are so many.
     pub(crate) fn get(&self, at: At, root: &RootId, offset: u64, len: u32) -> Option<(&'a [u8], At)>
-        ensures { (before : Entries) → access root.now (says.get offset len)
+        ensures { (before : ToldNotes) → access root.now (says.get offset len)
             (log_from before self.now at) ≡ reads_bytes before self.now result }
     {
         match self.access(at, root)? {
@@ -56,7 +56,7 @@ impl<'a> Log<'a> {
 
     /// The root is touched.
     pub(crate) fn touch(&self, at: At, root: &RootId) -> Option<At>
-        ensures { (before : Entries) → access root.now says.touch (log_from before self.now at)
+        ensures { (before : ToldNotes) → access root.now says.touch (log_from before self.now at)
             ≡ passes before self.now result }
     {
         match self.access(at, root)? {
@@ -68,7 +68,7 @@ impl<'a> Log<'a> {
     // The first bytes are set in the part, where it is not empty.
     fn set_filled(&self, at: At, part: &Range, bytes: &[u8]) -> Option<At>
         requires { part.now.len ≤ length bytes.now }
-        ensures { (before : Entries) → set_filled (part_of part.now) bytes.now
+        ensures { (before : ToldNotes) → set_filled (part_of part.now) bytes.now
             (log_from before self.now at) ≡ passes before self.now result }
     {
         if part.len == 0 {
@@ -79,7 +79,7 @@ impl<'a> Log<'a> {
 
     // The part's bytes are got, where it is not empty, and are these.
     fn get_filled(&self, at: At, part: &Range, these: &[u8]) -> Option<At>
-        ensures { (before : Entries) → where_same these.now (get_filled (part_of part.now)
+        ensures { (before : ToldNotes) → where_same these.now (get_filled (part_of part.now)
             (log_from before self.now at)) ≡ passes before self.now result }
     {
         if part.len == 0 {
@@ -91,7 +91,7 @@ impl<'a> Log<'a> {
 
     // The part's bytes are copied to the root at an index, where it is not empty.
     fn copy_filled(&self, at: At, root: &RootId, index: u64, part: &Range) -> Option<At>
-        ensures { (before : Entries) → copy_filled root.now index (part_of part.now)
+        ensures { (before : ToldNotes) → copy_filled root.now index (part_of part.now)
             (log_from before self.now at) ≡ passes before self.now result }
     {
         if part.len == 0 {
@@ -103,7 +103,7 @@ impl<'a> Log<'a> {
 
     /// The bytes are set from an index of the parts on.
     pub(crate) fn set_parts(&self, at: At, parts: &[Range], index: u64, bytes: &[u8]) -> Option<At>
-        ensures { (before : Entries) → set_parts
+        ensures { (before : ToldNotes) → set_parts
             (ranges (map part_of parts.now) index (length bytes.now)) bytes.now
             (log_from before self.now at) ≡ passes before self.now result }
     {
@@ -129,7 +129,7 @@ impl<'a> Log<'a> {
         len: u32,
         these: &[u8],
     ) -> Option<At>
-        ensures { (before : Entries) → where_same these.now (get_parts
+        ensures { (before : ToldNotes) → where_same these.now (get_parts
             (ranges (map part_of parts.now) index len) (log_from before self.now at))
             ≡ passes before self.now result }
     {
@@ -151,7 +151,7 @@ impl<'a> Log<'a> {
     /// The bytes of the parts are copied to the root.
     pub(crate) fn copy_parts(&self, at: At, root: &RootId, parts: &[Range]) -> Option<At>
         requires { length parts.now ≤ 32 }
-        ensures { (before : Entries) → copy_parts root.now 0 (filled (map part_of parts.now))
+        ensures { (before : ToldNotes) → copy_parts root.now 0 (filled (map part_of parts.now))
             (log_from before self.now at) ≡ passes before self.now result }
     {
         let mut here = at;

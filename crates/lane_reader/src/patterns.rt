@@ -9,7 +9,7 @@ ghost use Rattle.pool_law.specs.LaneLaw.{sweep_period};
 ghost use Rattle.pool_law.specs.Patterns.{ask_cache, ask_arena, obtain, one_more, bear};
 ghost use Rattle.pool_law.specs.Patterns.{with_handle, allot, give_back, not_kept, offer, put_away};
 ghost use Rattle.pool_law.specs.Patterns.{end_of, release};
-ghost use Rattle.pool_law.specs.Readers.{Entries, note};
+ghost use Rattle.pool_law.specs.Readers.{ToldNotes, note};
 ghost use Rattle.lane_reader.specs.Reading.{log_from, reads, passes};
 ghost use Rattle.lane_reader.specs.Allotting.{reads_birth, reads_new, reads_release};
 
@@ -66,7 +66,7 @@ impl Log<'_> {
     /// The lane's cache gives a region, or none where it is empty or another lane is in it.
     pub(crate) fn ask_cache(&self, at: At, lane: u32, class: u32) -> Option<(Option<RegionId>, At)>
         requires { at.asked < sweep_period }
-        ensures { (before : Entries) → ask_cache lane class (log_from before self.now at)
+        ensures { (before : ToldNotes) → ask_cache lane class (log_from before self.now at)
             ≡ reads before self.now result }
     {
         let cache = Object::Cache { lane, class };
@@ -93,7 +93,8 @@ impl Log<'_> {
         class: u32,
     ) -> Option<(Option<RegionId>, At)>
         requires { 1 ≤ shape.now.arenas }
-        ensures { (before : Entries) → ask_arena shape.now lane class (log_from before self.now at)
+        ensures { (before : ToldNotes) →
+            ask_arena shape.now lane class (log_from before self.now at)
             ≡ reads before self.now result }
     {
         let arena = Object::Arena(lane % shape.arenas);
@@ -114,7 +115,7 @@ impl Log<'_> {
     ) -> Option<(Option<RegionId>, At)>
         requires arenas { 1 ≤ shape.now.arenas }
         requires asked { at.asked < sweep_period }
-        ensures { (before : Entries) → obtain shape.now lane class (log_from before self.now at)
+        ensures { (before : ToldNotes) → obtain shape.now lane class (log_from before self.now at)
             ≡ reads before self.now result }
     {
         if class >= CACHED {
@@ -134,7 +135,7 @@ impl Log<'_> {
         size: u32,
         region: &RegionId,
     ) -> Option<(RootId, RegionId, At)>
-        ensures reads { (before : Entries) → note (Object.Root place)
+        ensures reads { (before : ToldNotes) → note (Object.Root place)
             (says.birth place size (one_more region.now)) (log_from before self.now at)
             ≡ reads_birth before self.now result }
         ensures used { IfSome result (λ p. p.1 ≡ one_more region.now) }
@@ -156,7 +157,7 @@ impl Log<'_> {
         size: u32,
         region: Option<RegionId>,
     ) -> Option<(Allotted, At)>
-        ensures { (before : Entries) → bear lane place size region (log_from before self.now at)
+        ensures { (before : ToldNotes) → bear lane place size region (log_from before self.now at)
             ≡ reads_new before self.now result }
     {
         match region {
@@ -185,7 +186,7 @@ impl Log<'_> {
         requires arenas { 1 ≤ shape.now.arenas }
         requires asked { at.asked < sweep_period }
         requires classes { classes.now ≡ geometry_of shape.now }
-        ensures { (before : Entries) → with_handle shape.now lane size place
+        ensures { (before : ToldNotes) → with_handle shape.now lane size place
             (log_from before self.now at) ≡ reads_new before self.now result }
     {
         let class = classes.class_of(size)?;
@@ -205,7 +206,7 @@ impl Log<'_> {
         requires arenas { 1 ≤ shape.now.arenas }
         requires asked { at.asked < sweep_period }
         requires classes { classes.now ≡ geometry_of shape.now }
-        ensures { (before : Entries) → allot shape.now lane size (log_from before self.now at)
+        ensures { (before : ToldNotes) → allot shape.now lane size (log_from before self.now at)
             ≡ reads_new before self.now result }
     {
         let bin = Object::Bin(lane);
@@ -218,7 +219,7 @@ impl Log<'_> {
 
     /// The region goes back to its arena.
     pub(crate) fn give_back(&self, at: At, region: &RegionId) -> Option<At>
-        ensures { (before : Entries) → give_back region.now (log_from before self.now at)
+        ensures { (before : ToldNotes) → give_back region.now (log_from before self.now at)
             ≡ passes before self.now result }
     {
         self.given(at, &Object::Arena(region.place.arena), region)
@@ -226,7 +227,7 @@ impl Log<'_> {
 
     /// The cache of the region's owner does not keep it, or another lane is in it.
     pub(crate) fn not_kept(&self, at: At, region: &RegionId) -> Option<At>
-        ensures { (before : Entries) → not_kept region.now (log_from before self.now at)
+        ensures { (before : ToldNotes) → not_kept region.now (log_from before self.now at)
             ≡ passes before self.now result }
     {
         let cache = cache_of(region);
@@ -239,7 +240,7 @@ impl Log<'_> {
 
     /// The region goes to its owner's cache, and to its arena where that does not keep it.
     pub(crate) fn offer(&self, at: At, region: &RegionId) -> Option<At>
-        ensures { (before : Entries) → offer region.now (log_from before self.now at)
+        ensures { (before : ToldNotes) → offer region.now (log_from before self.now at)
             ≡ passes before self.now result }
     {
         if let Some(behind) = self.kept(at, &cache_of(region), region) {
@@ -251,7 +252,7 @@ impl Log<'_> {
 
     /// The region goes to its owner's cache, if its class has one, or else to its arena.
     pub(crate) fn put_away(&self, at: At, region: &RegionId) -> Option<At>
-        ensures { (before : Entries) → put_away region.now (log_from before self.now at)
+        ensures { (before : ToldNotes) → put_away region.now (log_from before self.now at)
             ≡ passes before self.now result }
     {
         if region.class >= CACHED {
@@ -263,7 +264,7 @@ impl Log<'_> {
     /// The end of a root: its region is put away, and its handle goes home.
     pub(crate) fn end_of(&self, at: At, shape: &Shape, root: &RootId) -> Option<At>
         requires { 1 ≤ shape.now.handles }
-        ensures { (before : Entries) → end_of shape.now root.now (log_from before self.now at)
+        ensures { (before : ToldNotes) → end_of shape.now root.now (log_from before self.now at)
             ≡ passes before self.now result }
     {
         let at = self.ended(at, root)?;
@@ -276,7 +277,7 @@ impl Log<'_> {
     /// One release of a root.
     pub(crate) fn release(&self, at: At, shape: &Shape, root: &RootId) -> Option<(Released, At)>
         requires { 1 ≤ shape.now.handles }
-        ensures { (before : Entries) → release shape.now root.now (log_from before self.now at)
+        ensures { (before : ToldNotes) → release shape.now root.now (log_from before self.now at)
             ≡ reads_release before self.now result }
     {
         if let Some(behind) = self.count_kept(at, root) {

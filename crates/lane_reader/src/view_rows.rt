@@ -5,7 +5,7 @@ ghost use Rattle.std.specs.Option.{option_copied};
 ghost use Rattle.pool_law.specs.declared.command.Command.{Command};
 ghost use Rattle.pool_law.specs.Dids as says;
 ghost use Rattle.pool_law.specs.LaneStates.{LaneState, view_named};
-ghost use Rattle.pool_law.specs.Readers.{Entries, step, nothing};
+ghost use Rattle.pool_law.specs.Readers.{ToldNotes, step, nothing};
 ghost use Rattle.lane_reader.specs.declared.setting.Setting.{Setting};
 ghost use Rattle.lane_reader.specs.Bounding.{ChangeIsBounded};
 ghost use Rattle.lane_reader.specs.Reading.{log_from, passes};
@@ -36,7 +36,7 @@ impl Lane {
 impl Log<'_> {
     // A count of the root is added, if so is asked.
     fn retain_if(&self, at: At, retained: bool, root: &RootId) -> Option<At>
-        ensures { (before : Entries) → (if retained then step root.now says.retain else nothing)
+        ensures { (before : ToldNotes) → (if retained then step root.now says.retain else nothing)
             (log_from before self.now at) ≡ passes before self.now result }
     {
         if retained {

@@ -3,8 +3,7 @@
 ghost use Rattle.std.specs.Prelude.{◌≡◌, map, IfOk};
 ghost use Rattle.leak_records.specs.Reports.{leak_of, IsReport};
 
-use pool_law::list::Items;
-use pool_law::{Leak, LeakList, Records, Watch};
+use pool_law::{Items, Leak, LeakList, Records, Watch};
 use std::alloc::{AllocError, Global};
 
 /// A sampled root that is live at the end, with the watch of its birth. `count` is its count over

@@ -32,7 +32,7 @@ use topo_order::{Sorted, order_of};
 
 /// What is said of the notes of logs.
 #[derive(Drop)]
-pub enum Told {
+pub enum OrderFound {
     /// They are in one order: this.
     Ordered(Vec<Spot>),
     /// They are in no order: each of these must stand before the next, and the last before the first.
@@ -43,27 +43,27 @@ pub enum Told {
 }
 
 // What is said of logs with this graph.
-fn judged(alloc: Global, logs: &[LaneLog], graph: &Graph) -> Result<Told, AllocError>
+fn judged(alloc: Global, logs: &[LaneLog], graph: &Graph) -> Result<OrderFound, AllocError>
     requires { IsWhole (notes_in logs.now) graph.now }
     ensures { IfOk result (λ told. Tells (notes_in logs.now) told) }
 {
     let mut play = Play::new(alloc, logs)?;
     play.play_on(logs, graph)?;
     if play.is_over(logs) {
-        return Ok(Told::Ordered(play.into_order()));
+        return Ok(OrderFound::Ordered(play.into_order()));
     }
     match order_of(alloc, &graph.needs)? {
-        Sorted::Ordered(_) => Ok(Told::Stuck(play.into_order())),
+        Sorted::Ordered(_) => Ok(OrderFound::Stuck(play.into_order())),
         Sorted::Circle(nodes) => {
             let circle = graph.places_back(alloc, &nodes)?;
-            Ok(Told::Circle(circle))
+            Ok(OrderFound::Circle(circle))
         }
     }
 }
 
 /// Whether one thread could make the notes of these logs, one after another in one order: an order, or
 /// a circle of notes of which each must stand before the next.
-pub fn order_of_logs(alloc: Global, logs: &[LaneLog]) -> Result<Told, AllocError>
+pub fn order_of_logs(alloc: Global, logs: &[LaneLog]) -> Result<OrderFound, AllocError>
     ensures { IfOk result (λ found. Tells (notes_in logs.now) found) }
 {
     let graph = graph_of(alloc, logs)?;

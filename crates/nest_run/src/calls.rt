@@ -1,7 +1,6 @@
 //! What is asked of a nest: the capacity of its root, and calls on its views.
 
-use pool_law::Bytes;
-use pool_law::list::Items;
+use pool_law::{Bytes, Items};
 
 /// A call. Views are named by their numbers; view 0 is the root.
 #[derive(Drop)]

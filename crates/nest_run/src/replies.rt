@@ -1,7 +1,6 @@
 //! What calls on the views of a nest are answered.
 
-use pool_law::Bytes;
-use pool_law::list::Items;
+use pool_law::{Bytes, Items};
 
 /// The answer to a call.
 #[derive(Drop)]

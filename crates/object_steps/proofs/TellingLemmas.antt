@@ -5,12 +5,12 @@ use denote.Ref.{Bor}
 use Rattle.pool_law.specs.declared.note.Did.{Did}
 use Rattle.pool_law.specs.Roots.{RootPlace, place_step}
 use Rattle.pool_law.specs.Histories.{after}
-use Rattle.object_steps.specs.declared.told.Told.{Told}
+use Rattle.object_steps.specs.declared.told.PlaceTold.{PlaceTold}
 use Rattle.object_steps.specs.Behind.{dids_behind}
 use Rattle.object_steps.specs.Telling.{told_by, told_of_each}
 use Rattle.object_steps.proofs.AfterLemmas.{at-did}
 
-pub told-more : (place : ℕ) (dids : List (Bor Did)) (i : ℕ) (s t : RootPlace) (told : List Told) (did : Bor Did) →
+pub told-more : (place : ℕ) (dids : List (Bor Did)) (i : ℕ) (s t : RootPlace) (told : List PlaceTold) (did : Bor Did) →
     i < length dids → did ≡ get_or dids i did → Some t ≡ place_step place s did.now →
     (told ++ told_by did.now s.present ∷ []) ++ told_of_each place t (drop (i + 1) (dids_behind dids))
     ≡ told ++ told_of_each place s (drop i (dids_behind dids))
@@ -21,7 +21,7 @@ told-more place dids i s t told did there is e =
     ∙ ap (λ (o : Option RootPlace). told_by did.now s.present ∷ unwrap_or
     (option_map (λ u. told_of_each place u rest) o) []) (sym e) in
     append_assoc told (told_by did.now s.present ∷ []) (told_of_each place t rest)
-    ∙ ap (λ (xs : List Told). told ++ xs) (sym one)
+    ∙ ap (λ (xs : List PlaceTold). told ++ xs) (sym one)
 
 -- what is told of the note at a place is by what is present after those before it
 pub told-at : (place : ℕ) (s : RootPlace) (ds : List Did) (k : ℕ) (d : Did) (t : RootPlace) →

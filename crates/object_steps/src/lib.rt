@@ -34,4 +34,4 @@ pub use objects::{accepts, arena_after, capacity_after};
 pub use place::RootPlace;
 pub use sizes::Sizes;
 pub use telling::told_of_each;
-pub use told::Told;
+pub use told::PlaceTold;

@@ -17,7 +17,7 @@ ghost use Rattle.pool_law.specs.Roots.{
 };
 
 use crate::same::same_bytes;
-use crate::told::Told;
+use crate::told::PlaceTold;
 use pool_law::{Did, RegionId, RootId};
 use std::alloc::{AllocError, Global};
 use std::marker::Model;
@@ -40,7 +40,7 @@ impl Model for Present {
 
 impl Present {
     // What is told of a note that comes next.
-    fn told(&self, did: &Did) -> Told
+    fn told(&self, did: &Did) -> PlaceTold
         ensures { result ≡ told_by did.now (Some self.now) }
     {
         let (root, region) = match did {
@@ -52,7 +52,7 @@ impl Present {
             Did::End(_) => (None, Some(self.region)),
             _ => (None, None),
         };
-        Told { root, region }
+        PlaceTold { root, region }
     }
 }
 
@@ -93,11 +93,11 @@ impl RootPlace {
     }
 
     /// What is told of a note that comes next.
-    pub(crate) fn told(&self, did: &Did) -> Told
+    pub(crate) fn told(&self, did: &Did) -> PlaceTold
         ensures { result ≡ told_by did.now self.now.present }
     {
         match &self.present {
-            None => Told {
+            None => PlaceTold {
                 root: None,
                 region: None,
             },

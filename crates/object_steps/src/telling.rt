@@ -7,7 +7,7 @@ ghost use Rattle.object_steps.specs.Behind.{dids_behind};
 ghost use Rattle.object_steps.specs.Telling.{told_of_each};
 
 use crate::place::RootPlace;
-use crate::told::Told;
+use crate::told::PlaceTold;
 use pool_law::Did;
 use std::alloc::{AllocError, Global};
 
@@ -16,7 +16,7 @@ pub fn told_of_each(
     alloc: Global,
     number: u32,
     dids: &[&Did],
-) -> Result<Option<Vec<Told>>, AllocError>
+) -> Result<Option<Vec<PlaceTold>>, AllocError>
     ensures { IfOk result (λ told. option_map (λ t. t.items) told
         ≡ option_map (λ _. told_of_each number new_place (dids_behind dids.now))
         (place_after number (dids_behind dids.now))) }

@@ -5,7 +5,7 @@ use Rattle.std.proofs.lemmas.List.{map-append}
 use Rattle.pool_law.specs.declared.id.RootId.{RootId}
 use Rattle.pool_law.specs.declared.note.Note.{Note}
 use Rattle.pool_law.specs.declared.run.Run.{Run}
-use Rattle.pool_law.specs.Logs.{Logs, Entry, of_lane, entry_of, entries_of}
+use Rattle.pool_law.specs.Logs.{Logs, ToldNote, of_lane, entry_of, entries_of}
 use Rattle.pool_law.specs.Counts.{note_gains, note_loses, count_step, count_from, CountsHold, count_over, is_born, is_retain, is_release}
 use Rattle.pool_law.specs.Legal.{IsLegal, logs_of}
 use Rattle.run_laws.specs.CountLaw.{is_posted, is_fetched, counts_of}
@@ -39,7 +39,7 @@ counts-alike a b root [] = refl
 counts-alike a b root (log ∷ logs) = omega (arith, count-alike a b root 0 log, counts-alike a b root logs)
 
 -- counts that hold in a log hold in each front of it
-counts-front : (root : RootId) (k : ℕ) (es fs : List Entry) → CountsHold root k (es ++ fs) → CountsHold root k es
+counts-front : (root : RootId) (k : ℕ) (es fs : List ToldNote) → CountsHold root k (es ++ fs) → CountsHold root k es
 counts-front root k [] fs h = tt
 counts-front root k (e ∷ es) fs h = (h.0, (h.1.0, counts-front root (count_step root k e) es fs h.1.1))
 
@@ -58,7 +58,7 @@ module _ (run : Run) (legal : IsLegal run) (o : InOneOrder (logs_of run)) (befor
   abbrev fronts : Logs
   fronts = front lanes before
 
-  abbrev entries : List (List Entry)
+  abbrev entries : List (List ToldNote)
   entries = map (map (entry_of logs)) fronts
 
   -- a lane's count holds after its part of the front

@@ -4,7 +4,7 @@
 ghost use Rattle.std.specs.Prelude.{IfOk};
 ghost use Rattle.play_check.specs.Judging.{Judges};
 
-use log_order::{Spot, Told, order_of_logs};
+use log_order::{OrderFound, Spot, order_of_logs};
 use pool_law::Run;
 use run_check::{Breach, find_breach};
 use std::alloc::{AllocError, Global};
@@ -34,8 +34,8 @@ pub fn check_played(alloc: Global, run: &Run) -> Result<Played, AllocError>
         return Ok(Played::Illegal(breach));
     }
     match order_of_logs(alloc, run.logs.items())? {
-        Told::Ordered(order) => Ok(Played::Ordered(order)),
-        Told::Circle(circle) => Ok(Played::Circle(circle)),
-        Told::Stuck(order) => Ok(Played::Stuck(order)),
+        OrderFound::Ordered(order) => Ok(Played::Ordered(order)),
+        OrderFound::Circle(circle) => Ok(Played::Circle(circle)),
+        OrderFound::Stuck(order) => Ok(Played::Stuck(order)),
     }
 }

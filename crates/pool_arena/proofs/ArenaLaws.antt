@@ -6,10 +6,10 @@ use Rattle.size_classes.proofs.Geometries.{page_shift-is}
 use Rattle.size_classes.proofs.SmallClasses.{small_below}
 use Rattle.pool_law.specs.declared.id.RegionId.{RegionId}
 use Rattle.pool_law.specs.Arenas.{Arena, Spotted, chunk_at, take_class, given_place}
-use Rattle.arena_law.specs.Orderly.{IsOrderly}
-use Rattle.arena_law.specs.Slots.{IsSlot}
-use Rattle.arena_law.proofs.OrderlyTakes.{take_class-orderly}
-use Rattle.arena_law.proofs.OrderlyGives.{given_place-orderly}
+use Rattle.arena_laws.specs.Orderly.{IsOrderly}
+use Rattle.arena_laws.specs.Slots.{IsSlot}
+use Rattle.arena_laws.proofs.OrderlyTakes.{take_class-orderly}
+use Rattle.arena_laws.proofs.OrderlyGives.{given_place-orderly}
 use Rattle.pool_arena.specs.Stocks.{StockState, arena_in, Yields, Becomes}
 use Rattle.pool_arena.proofs.KeptPlaces.{Keeps, class-keeps, place-keeps}
 

@@ -15,7 +15,7 @@ use Rattle.pool_arena.specs.Places.{PlaceState, runs_of, state_of, with_chunk}
 use Rattle.pool_arena.specs.Fronts.{FrontState}
 use Rattle.pool_arena.specs.Stocks.{StockState, arena_with, arena_in, Becomes, IsElementOutOf, element_back}
 use Rattle.pool_arena.specs.Held.{stock_in, IsStock}
-use Rattle.pool_arena.specs.declared.stock.Stock.TheInside.{Inside}
+use Rattle.pool_arena.specs.declared.stock.ChunkStock.TheInside.{Inside}
 use Rattle.pool_arena.proofs.ListLaws.{found-is}
 use Rattle.pool_arena.proofs.StockLaws.{sizes_of, place-chunk_at, place-geometry, place-origin}
 use Rattle.pool_arena.proofs.FrontsLaws.{front_of-is, spots-set}

@@ -12,7 +12,7 @@ use Rattle.pool_arena.specs.declared.place.Cut.{Cut}
 use Rattle.pool_arena.specs.Places.{PlaceState, runs_of, state_of, pages_wanted, use_wanted, IsCutAt, Cuts}
 use Rattle.pool_arena.specs.Stocks.{arena_in, IsCutIn, found_in, CutsFrom}
 use Rattle.pool_arena.specs.Held.{stock_in, IsStock}
-use Rattle.pool_arena.specs.declared.stock.Stock.TheInside.{Inside}
+use Rattle.pool_arena.specs.declared.stock.ChunkStock.TheInside.{Inside}
 use Rattle.pool_arena.proofs.UsageLaws.{usage-rises, taken-free}
 use Rattle.pool_arena.proofs.StockLaws.{place-chunk_at, place-geometry, place-origin}
 use Rattle.pool_arena.proofs.SettleLaws.{Settles, settle-up}

@@ -3,7 +3,7 @@ use Rattle.std.proofs.Common.{◌≡◌, ℕ, ◌+◌, ◌-◌, ◌*◌, ◌<◌
 use Rattle.std.specs.Prelude.{Option, map, slice_get, slice_set, nat_lt, ◌==◌, if◌then◌else◌, option_map, option_and_then}
 use Rattle.std.proofs.lemmas.Bool.{cond_both}
 use Rattle.std.proofs.lemmas.List.{length-map}
-use Rattle.arena_law.proofs.ArenaSteps.{chunk_at-below}
+use Rattle.arena_laws.proofs.ArenaSteps.{chunk_at-below}
 use Rattle.ground.specs.Ground.{Segment}
 use Rattle.size_classes.specs.Sizes.{Geometry, page_of, chunk_pages, size_at}
 use Rattle.size_classes.specs.Pages.{Run, Free, Used, pages_in, replaced, run_at, NoneEmpty}
@@ -19,7 +19,7 @@ use Rattle.pool_arena.specs.Places.{PlaceState, runs_of, state_of, with_chunk, H
 use Rattle.pool_arena.specs.Fronts.{FrontState}
 use Rattle.pool_arena.specs.Stocks.{StockState, arena_with, arena_in, IsOpen, GivesPlace}
 use Rattle.pool_arena.specs.Held.{stock_in, HasRoomAt, IsStock}
-use Rattle.pool_arena.specs.declared.stock.Stock.TheInside.{Inside}
+use Rattle.pool_arena.specs.declared.stock.ChunkStock.TheInside.{Inside}
 use Rattle.pool_arena.proofs.FrontsLaws.{front_of-is, spots-set}
 use Rattle.pool_arena.proofs.UsageLaws.{usage-same, elements-free}
 use Rattle.pool_arena.proofs.StockLaws.{sizes_of, Written, place-chunk_at, place-geometry, place-origin, written-grounds, written-chunks, written-held, written-settled}

@@ -3,15 +3,15 @@ use Rattle.std.proofs.Common.{◌≡◌, ℕ, List, [], ◌∷◌, refl, ap, Boo
 use Rattle.std.specs.Prelude.{not, ◌==◌, ◌&&◌, map, filter, if◌then◌else◌}
 use Rattle.std.proofs.lemmas.Bool.{cond_both}
 use Rattle.pool_law.specs.Arenas.{without_spot}
-use Rattle.pool_arena.specs.declared.front.Spot.{Spot}
+use Rattle.pool_arena.specs.declared.front.SubpageAt.{SubpageAt}
 use Rattle.pool_arena.specs.Fronts.{pair_of}
 
 -- whether a subpage is another than this one
-abbrev pub is_other : ℕ → ℕ → Spot → Bool
+abbrev pub is_other : ℕ → ℕ → SubpageAt → Bool
 is_other c page s = not ((s.chunk == c) && (s.page == page))
 
 -- what leaves the subpages leaves their pairs
-pub pairs-left : (c page : ℕ) (spots : List Spot) → map pair_of (filter (is_other c page) spots)
+pub pairs-left : (c page : ℕ) (spots : List SubpageAt) → map pair_of (filter (is_other c page) spots)
     ≡ without_spot c page (map pair_of spots)
 pairs-left c page [] = refl
 pairs-left c page (s ∷ spots) =

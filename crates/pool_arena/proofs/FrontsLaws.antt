@@ -9,11 +9,11 @@ use Rattle.std.proofs.lemmas.List.{map-set, length-set}
 use Rattle.size_classes.specs.Sizes.{Geometry, chunk_pages, class_count, is_small}
 use Rattle.pool_law.specs.Arenas.{front_of, with_front, without_spot, with_subpage}
 use Rattle.pool_law.proofs.ListLemmas.{slice_get-set_same, slice_get-set_other, slice_get-below}
-use Rattle.arena_law.proofs.ChunkSteps.{same_or-not}
+use Rattle.arena_laws.proofs.ChunkSteps.{same_or-not}
 use Rattle.pool_arena.specs.Fronts.{FrontState, with_spots}
 use Rattle.pool_arena.specs.Stocks.{StockState, arena_in, Becomes}
 use Rattle.pool_arena.specs.Held.{stock_in, HasRoomAt, IsStock}
-use Rattle.pool_arena.specs.declared.stock.Stock.TheInside.{Inside}
+use Rattle.pool_arena.specs.declared.stock.ChunkStock.TheInside.{Inside}
 
 -- the subpages of a class
 pub front_of-is : (s : Inside) (class : ℕ) (f : FrontState) → slice_get s.fronts.items class ≡ Some f

@@ -12,16 +12,16 @@ use Rattle.pool_law.specs.declared.report.ListName.{ListName}
 use Rattle.pool_law.specs.Chunks.{Chunk, Use, Whole, usage}
 use Rattle.pool_law.specs.ChunkLists.{list_of, greatest}
 use Rattle.pool_law.specs.Arenas.{Arena, chunk_at, run_given, small_given, given_place}
-use Rattle.arena_law.specs.Slots.{IsWholeRun, IsElement, IsSlot}
-use Rattle.arena_law.specs.Orderly.{IsOrderly}
-use Rattle.arena_law.proofs.ArenaSteps.{chunk_at-below}
-use Rattle.arena_law.proofs.OrderlyParts.{begins-listed}
+use Rattle.arena_laws.specs.Slots.{IsWholeRun, IsElement, IsSlot}
+use Rattle.arena_laws.specs.Orderly.{IsOrderly}
+use Rattle.arena_laws.proofs.ArenaSteps.{chunk_at-below}
+use Rattle.arena_laws.proofs.OrderlyParts.{begins-listed}
 use Rattle.pool_chunk.specs.ChunkStates.{IsRunOut}
 use Rattle.pool_arena.specs.Places.{PlaceState, runs_of, state_of, with_chunk}
 use Rattle.pool_arena.specs.Fronts.{FrontState}
 use Rattle.pool_arena.specs.Stocks.{StockState, arena_in, Becomes, IsPlaceOut}
 use Rattle.pool_arena.specs.Held.{stock_in, IsStock}
-use Rattle.pool_arena.specs.declared.stock.Stock.TheInside.{Inside}
+use Rattle.pool_arena.specs.declared.stock.ChunkStock.TheInside.{Inside}
 use Rattle.pool_arena.proofs.UsageLaws.{usage-rises, given-free}
 use Rattle.pool_arena.proofs.WalkLaws.{there}
 use Rattle.pool_arena.proofs.StockLaws.{place-chunk_at, place-geometry, place-origin}

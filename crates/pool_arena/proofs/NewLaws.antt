@@ -10,10 +10,10 @@ use Rattle.pool_law.specs.declared.id.RegionId.{RegionId}
 use Rattle.pool_law.specs.Chunks.{Chunk, Use, new_chunk}
 use Rattle.pool_law.specs.ChunkLists.{list_of}
 use Rattle.pool_law.specs.Arenas.{Arena, or_else, chunk_at, with_run, first_holding, first_unused, opened, run_from, run_taken, run_from_new}
-use Rattle.arena_law.specs.Orderly.{IsOrderly, chunk_of}
-use Rattle.arena_law.proofs.UsedSteps.{opened-below, opened-chunk}
-use Rattle.arena_law.proofs.ArenaSteps.{first_unused-is}
-use Rattle.arena_law.proofs.OrderlySteps.{opened-orderly}
+use Rattle.arena_laws.specs.Orderly.{IsOrderly, chunk_of}
+use Rattle.arena_laws.proofs.UsedSteps.{opened-below, opened-chunk}
+use Rattle.arena_laws.proofs.ArenaSteps.{first_unused-is}
+use Rattle.arena_laws.proofs.OrderlySteps.{opened-orderly}
 use Rattle.pool_arena.specs.declared.place.Wanted.{Wanted}
 use Rattle.pool_arena.specs.declared.place.Cut.{Cut}
 use Rattle.pool_arena.specs.Places.{pages_wanted, use_wanted, IsWanted}

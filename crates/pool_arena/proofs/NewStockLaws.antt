@@ -8,13 +8,13 @@ use Rattle.size_classes.specs.Sizes.{Geometry, of_pages, IsGeometry, below, clas
 use Rattle.pool_law.specs.ChunkLists.{Lists, list_of, no_chunks}
 use Rattle.pool_law.specs.Arenas.{new_arena}
 use Rattle.pool_law.proofs.ListLemmas.{slice_get-below}
-use Rattle.arena_law.proofs.ListSteps.{nowhere}
+use Rattle.arena_laws.proofs.ListSteps.{nowhere}
 use Rattle.chunk_list.specs.Listing.{Listing, new_listing}
 use Rattle.pool_arena.specs.Places.{PlaceState}
 use Rattle.pool_arena.specs.Fronts.{FrontState}
 use Rattle.pool_arena.specs.Stocks.{arena_in}
 use Rattle.pool_arena.specs.Held.{stock_in, front_for, HasRoomAt, IsStock}
-use Rattle.pool_arena.specs.declared.stock.Stock.TheInside.{Inside}
+use Rattle.pool_arena.specs.declared.stock.ChunkStock.TheInside.{Inside}
 
 -- ---- the last of a list
 

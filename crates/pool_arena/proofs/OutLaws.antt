@@ -12,16 +12,16 @@ use Rattle.pool_law.specs.Same.{same_place, same_taking}
 use Rattle.pool_law.specs.Chunks.{Whole, Sub}
 use Rattle.pool_law.specs.Arenas.{Arena, chunk_at}
 use Rattle.pool_law.proofs.PatternLemmas.{same_taking-refl}
-use Rattle.arena_law.specs.Slots.{IsOne, IsSlot, IsLocated, ArenaHolds}
-use Rattle.arena_law.specs.Covered.{IsCovered}
-use Rattle.arena_law.proofs.ArenaSteps.{chunk_at-below}
-use Rattle.arena_law.proofs.ElementTakes.{take-holds}
-use Rattle.arena_law.proofs.ElementGives.{EachOf-one}
-use Rattle.arena_law.proofs.ArenaLaw.{give-holds, new-holds}
-use Rattle.arena_law.proofs.TakingLaw.{take-numbers, give-numbers}
-use Rattle.arena_law.proofs.CoveredSteps.{take-covered, new-covered}
-use Rattle.arena_law.proofs.CoveredGives.{give-covered}
-use Rattle.arena_law.proofs.CoveredLaw.{covered-rests}
+use Rattle.arena_laws.specs.Slots.{IsOne, IsSlot, IsLocated, ArenaHolds}
+use Rattle.arena_laws.specs.Covered.{IsCovered}
+use Rattle.arena_laws.proofs.ArenaSteps.{chunk_at-below}
+use Rattle.arena_laws.proofs.ElementTakes.{take-holds}
+use Rattle.arena_laws.proofs.ElementGives.{EachOf-one}
+use Rattle.arena_laws.proofs.ArenaLaw.{give-holds, new-holds}
+use Rattle.arena_laws.proofs.TakingLaw.{take-numbers, give-numbers}
+use Rattle.arena_laws.proofs.CoveredSteps.{take-covered, new-covered}
+use Rattle.arena_laws.proofs.CoveredGives.{give-covered}
+use Rattle.arena_laws.proofs.CoveredLaw.{covered-rests}
 use Rattle.pool_arena.specs.Trials.{HasOut}
 use Rattle.pool_arena.specs.ArenaStates.{ArenaState, IsNew, law_of, IsInPlaceAt, IsInPlaceUnder, IsOutOf, Takes, Gives, AtRest, without_taking}
 

@@ -14,19 +14,19 @@ use Rattle.pool_law.specs.declared.report.ListName.{ListName}
 use Rattle.pool_law.specs.Chunks.{Chunk, Use, Whole, Sub, IsChunk, usage, new_chunk}
 use Rattle.pool_law.specs.ChunkLists.{list_of, down_to}
 use Rattle.pool_law.specs.Arenas.{Arena, chunk_at, front_of, without_spot, unless_gone, run_given}
-use Rattle.arena_law.specs.Orderly.{IsOrderly, IsAtRest, ChunkAtRest, has_spot, chunk_of}
-use Rattle.arena_law.proofs.ChunkSteps.{same_or-not}
-use Rattle.arena_law.proofs.ElementSteps.{some-elements}
-use Rattle.arena_law.proofs.FrontSteps.{spot-first, test-here, front-same, front-other}
-use Rattle.arena_law.proofs.ArenaSteps.{chunk_at-below}
-use Rattle.arena_law.proofs.OrderlyParts.{Roomy, roomy-of, has-room, elements-found, begins-listed, small-below, chunk_of-same, chunk_of-other}
-use Rattle.arena_law.proofs.OrderlyGives.{subpage_given-orderly}
+use Rattle.arena_laws.specs.Orderly.{IsOrderly, IsAtRest, ChunkAtRest, has_spot, chunk_of}
+use Rattle.arena_laws.proofs.ChunkSteps.{same_or-not}
+use Rattle.arena_laws.proofs.ElementSteps.{some-elements}
+use Rattle.arena_laws.proofs.FrontSteps.{spot-first, test-here, front-same, front-other}
+use Rattle.arena_laws.proofs.ArenaSteps.{chunk_at-below}
+use Rattle.arena_laws.proofs.OrderlyParts.{Roomy, roomy-of, has-room, elements-found, begins-listed, small-below, chunk_of-same, chunk_of-other}
+use Rattle.arena_laws.proofs.OrderlyGives.{subpage_given-orderly}
 use Rattle.pool_chunk.proofs.ChunkLaws.{subpage-fits}
 use Rattle.pool_arena.specs.Places.{PlaceState, runs_of}
 use Rattle.pool_arena.specs.Stocks.{StockState, arena_in, Becomes, HasChunk, IsIdleAt, subpage_given}
 use Rattle.pool_arena.specs.Held.{stock_in, IsStock}
 use Rattle.pool_arena.specs.Closing.{IsAllFree, IsResting, HasNoFront}
-use Rattle.pool_arena.specs.declared.stock.Stock.TheInside.{Inside}
+use Rattle.pool_arena.specs.declared.stock.ChunkStock.TheInside.{Inside}
 use Rattle.pool_arena.proofs.StockLaws.{place-chunk_at, place-geometry}
 use Rattle.pool_arena.proofs.UsageLaws.{all-free}
 use Rattle.pool_arena.proofs.WalkLaws.{there}

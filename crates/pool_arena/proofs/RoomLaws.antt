@@ -2,10 +2,10 @@
 use Rattle.std.proofs.Common.{◌≡◌, ℕ, ◌+◌, ◌*◌, ◌<◌, List, [], ◌∷◌, length, refl, sym, ap, ◌∙◌, Bool, true, false, arith, eqb-true, eq-eqb, inl, inr}
 use Rattle.std.specs.Prelude.{◌⊎◌, map, ◌==◌, ◌&&◌, ◌||◌}
 use Rattle.std.proofs.lemmas.List.{length-map}
-use Rattle.arena_law.proofs.SlotLemmas.{three}
-use Rattle.arena_law.proofs.FrontSteps.{spot-first}
+use Rattle.arena_laws.proofs.SlotLemmas.{three}
+use Rattle.arena_laws.proofs.FrontSteps.{spot-first}
 use Rattle.pool_law.specs.ChunkLists.{has}
-use Rattle.arena_law.specs.Orderly.{has_spot, SpotsDiffer}
+use Rattle.arena_laws.specs.Orderly.{has_spot, SpotsDiffer}
 use Rattle.chunk_list.specs.Kept.{AreDifferent, AreBelow}
 use Rattle.chunk_list.proofs.MemberLemmas.{has_room}
 

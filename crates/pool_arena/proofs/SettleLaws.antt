@@ -8,7 +8,7 @@ use Rattle.pool_law.specs.declared.report.ListName.{ListName}
 use Rattle.pool_law.specs.Chunks.{Chunk, Use, usage}
 use Rattle.pool_law.specs.ChunkLists.{list_of, least, greatest, lists_above, lists_below, risen, settled_up, settled_down, down_to}
 use Rattle.pool_law.specs.Arenas.{chunk_at, with_run, run_given, unless_gone}
-use Rattle.arena_law.proofs.ListSteps.{down-other}
+use Rattle.arena_laws.proofs.ListSteps.{down-other}
 use Rattle.chunk_list.specs.Listing.{Listing, with_lists}
 use Rattle.chunk_list.specs.Settling.{settled, goes_to, IsWithin}
 use Rattle.chunk_list.proofs.SettlingLaws.{settled-is, settled-up, settled-down, sunk_stays}
@@ -16,7 +16,7 @@ use Rattle.pool_arena.specs.Places.{PlaceState, runs_of, with_chunk}
 use Rattle.pool_arena.specs.Fronts.{FrontState}
 use Rattle.pool_arena.specs.Stocks.{arena_in, Becomes}
 use Rattle.pool_arena.specs.Held.{stock_in, HasRoomAt, AreSettled, IsStock}
-use Rattle.pool_arena.specs.declared.stock.Stock.TheInside.{Inside}
+use Rattle.pool_arena.specs.declared.stock.ChunkStock.TheInside.{Inside}
 use Rattle.pool_arena.proofs.StockLaws.{sizes_of, Written, place-geometry, written-grounds, written-chunks, written-held, written-settled}
 
 -- from the least usage of its list on a chunk goes to a list

@@ -14,14 +14,14 @@ use Rattle.pool_law.specs.Chunks.{Use, Sub, IsChunk}
 use Rattle.pool_law.specs.ChunkLists.{list_of}
 use Rattle.pool_law.specs.Arenas.{Arena, chunk_at, elements_at, front_of, is_alone, run_given, idle_given, element_given, small_given, given_place}
 use Rattle.pool_law.proofs.ListLemmas.{slice_get-below}
-use Rattle.arena_law.specs.Slots.{IsElement}
-use Rattle.arena_law.specs.Orderly.{IsOrderly, has_spot, chunk_of}
-use Rattle.arena_law.proofs.SlotLemmas.{element-inside}
-use Rattle.arena_law.proofs.ChunkSteps.{size_at-pos}
-use Rattle.arena_law.proofs.ArenaSteps.{chunk_at-below}
-use Rattle.arena_law.proofs.ElementGives.{page-of, number-of, small_given-element}
-use Rattle.arena_law.proofs.OrderlyParts.{roomy-of, elements-found, begins-listed}
-use Rattle.arena_law.proofs.OrderlyGives.{back_in-here, back_in-orderly}
+use Rattle.arena_laws.specs.Slots.{IsElement}
+use Rattle.arena_laws.specs.Orderly.{IsOrderly, has_spot, chunk_of}
+use Rattle.arena_laws.proofs.SlotLemmas.{element-inside}
+use Rattle.arena_laws.proofs.ChunkSteps.{size_at-pos}
+use Rattle.arena_laws.proofs.ArenaSteps.{chunk_at-below}
+use Rattle.arena_laws.proofs.ElementGives.{page-of, number-of, small_given-element}
+use Rattle.arena_laws.proofs.OrderlyParts.{roomy-of, elements-found, begins-listed}
+use Rattle.arena_laws.proofs.OrderlyGives.{back_in-here, back_in-orderly}
 use Rattle.pool_chunk.specs.ChunkStates.{IsInUse}
 use Rattle.pool_chunk.proofs.ChunkLaws.{subpage-fits, run-some}
 use Rattle.pool_arena.specs.Places.{PlaceState, runs_of, state_of}

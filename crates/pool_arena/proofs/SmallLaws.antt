@@ -8,17 +8,17 @@ use Rattle.size_classes.proofs.SmallClasses.{small_below}
 use Rattle.pool_law.specs.declared.id.RegionId.{RegionId}
 use Rattle.pool_law.specs.Chunks.{Whole}
 use Rattle.pool_law.specs.Arenas.{Arena, Spotted, front_of, with_subpage, take_run, take_element, take_small, take_class}
-use Rattle.arena_law.specs.Orderly.{IsOrderly, has_spot}
-use Rattle.arena_law.proofs.FrontSteps.{spot-first, front-same}
-use Rattle.arena_law.proofs.OrderlyTakes.{take_subpage-orderly, take_run-fronts}
+use Rattle.arena_laws.specs.Orderly.{IsOrderly, has_spot}
+use Rattle.arena_laws.proofs.FrontSteps.{spot-first, front-same}
+use Rattle.arena_laws.proofs.OrderlyTakes.{take_subpage-orderly, take_run-fronts}
 use Rattle.pool_arena.specs.declared.place.Wanted.{Wanted}
-use Rattle.pool_arena.specs.declared.front.Spot.{Spot}
+use Rattle.pool_arena.specs.declared.front.SubpageAt.{SubpageAt}
 use Rattle.pool_arena.specs.Fronts.{pair_of, IsFirst}
 use Rattle.pool_arena.specs.Places.{use_wanted}
 use Rattle.pool_arena.specs.Stocks.{StockState, arena_with, arena_in, YieldsNone, run_wanted, NewFront, IsOpen, GivesPlace}
 
 -- a front subpage is before others
-pub first-is : (spots : List (ℕ × ℕ)) (s : Spot) → IsFirst spots (Some s)
+pub first-is : (spots : List (ℕ × ℕ)) (s : SubpageAt) → IsFirst spots (Some s)
     → (rest : List (ℕ × ℕ)) × (spots ≡ pair_of s ∷ rest)
 first-is [] s e = absurd (cc e)
 first-is (t ∷ spots) s e = let same : t ≡ pair_of s = cc e in (spots, ap (λ (x : ℕ × ℕ). x ∷ spots) same)

@@ -9,7 +9,7 @@ use Rattle.pool_law.specs.declared.report.ListName.TheVariants.{QInit}
 use Rattle.pool_law.specs.Chunks.{Chunk, new_chunk, usage_of, usage, free_bytes}
 use Rattle.pool_law.specs.ChunkLists.{list_of, entered}
 use Rattle.pool_law.specs.Arenas.{opened}
-use Rattle.arena_law.proofs.ListSteps.{entered-other}
+use Rattle.arena_laws.proofs.ListSteps.{entered-other}
 use Rattle.chunk_list.specs.Listing.{Listing, with_lists}
 use Rattle.chunk_list.specs.Settling.{added, IsWithin}
 use Rattle.chunk_list.proofs.ListsLemmas.{in_none}
@@ -18,7 +18,7 @@ use Rattle.pool_arena.specs.Places.{PlaceState, runs_of}
 use Rattle.pool_arena.specs.Stocks.{Becomes}
 use Rattle.pool_arena.specs.Held.{stock_in, HasRoomAt, IsStock}
 use Rattle.pool_arena.specs.Fronts.{FrontState}
-use Rattle.pool_arena.specs.declared.stock.Stock.TheInside.{Inside}
+use Rattle.pool_arena.specs.declared.stock.ChunkStock.TheInside.{Inside}
 use Rattle.pool_arena.proofs.UsageLaws.{size-some}
 use Rattle.pool_arena.proofs.StockLaws.{Written, place-geometry, written-grounds, written-chunks, written-held, written-settled}
 

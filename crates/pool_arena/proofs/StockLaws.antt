@@ -10,15 +10,15 @@ use Rattle.pool_law.specs.Chunks.{Chunk, usage}
 use Rattle.pool_law.specs.ChunkLists.{list_of}
 use Rattle.pool_law.specs.Arenas.{chunk_at}
 use Rattle.pool_law.proofs.ListLemmas.{slice_get-set_same, slice_get-set_other, slice_get-below}
-use Rattle.arena_law.specs.Orderly.{chunk_of}
-use Rattle.arena_law.proofs.ChunkSteps.{same_or-not}
+use Rattle.arena_laws.specs.Orderly.{chunk_of}
+use Rattle.arena_laws.proofs.ChunkSteps.{same_or-not}
 use Rattle.chunk_list.specs.Listing.{Listing}
 use Rattle.chunk_list.specs.Settling.{settled, IsWithin}
 use Rattle.pool_arena.specs.Places.{PlaceState, runs_of}
 use Rattle.pool_arena.specs.Fronts.{FrontState}
 use Rattle.pool_arena.specs.Stocks.{arena_in}
 use Rattle.pool_arena.specs.Held.{stock_in, HasRoomAt, AreSettled, IsStock}
-use Rattle.pool_arena.specs.declared.stock.Stock.TheInside.{Inside}
+use Rattle.pool_arena.specs.declared.stock.ChunkStock.TheInside.{Inside}
 use Rattle.pool_arena.proofs.ListLaws.{All-set, read-is, some-of}
 
 -- ---- one place

@@ -9,7 +9,7 @@ use Rattle.pool_law.specs.declared.id.Region.{Region}
 use Rattle.pool_law.specs.declared.id.RegionId.{RegionId}
 use Rattle.pool_law.specs.Same.{same_place, same_taking}
 use Rattle.pool_law.proofs.SameLemmas.{and-first, same_place-is}
-use Rattle.arena_law.specs.Slots.{EachOf, BeginElsewhere}
+use Rattle.arena_laws.specs.Slots.{EachOf, BeginElsewhere}
 use Rattle.pool_arena.specs.ArenaStates.{ArenaState, IsNew, IsSameArena, IsOutOf, IsInPlaceAt, IsInPlaceUnder, Takes, Gives, AtRest, without_taking}
 use Rattle.pool_arena.specs.Trials.{HasOut, IsTrial}
 use Rattle.pool_arena.proofs.OutLaws.{new-out, new-places, take-out, out-of, give-out, none-out, left-first, first-place}

@@ -18,7 +18,7 @@ use Rattle.pool_law.specs.ChunkLists.{greatest, lists_above, lists_below, risen,
 use Rattle.pool_chunk.specs.ChunkStates.{with_elements}
 use Rattle.chunk_list.specs.Settling.{goes_to, answer_of}
 use Rattle.chunk_list.specs.declared.lists.Settled.{Settled}
-use Rattle.arena_law.proofs.GiveSteps.{free-all, sunk-stays, lists_below-low, usage-nothing}
+use Rattle.arena_laws.proofs.GiveSteps.{free-all, sunk-stays, lists_below-low, usage-nothing}
 
 -- ---- the usage by the free bytes
 

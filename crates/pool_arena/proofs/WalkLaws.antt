@@ -6,8 +6,8 @@ use Rattle.pool_law.specs.declared.report.ListName.TheVariants.{QInit, Q000, Q02
 use Rattle.size_classes.specs.Pages.{Span}
 use Rattle.pool_law.specs.ChunkLists.{Lists, has, list_of, walk}
 use Rattle.pool_law.specs.Arenas.{or_else, first_holding}
-use Rattle.arena_law.specs.Orderly.{IsOrderly, chunk_of}
-use Rattle.arena_law.proofs.ListSteps.{in-none}
+use Rattle.arena_laws.specs.Orderly.{IsOrderly, chunk_of}
+use Rattle.arena_laws.proofs.ListSteps.{in-none}
 use Rattle.pool_arena.specs.declared.place.Wanted.{Wanted}
 use Rattle.pool_arena.specs.Places.{pages_wanted}
 use Rattle.pool_arena.specs.Stocks.{StockState, arena_with, arena_in, HasChunk, found_in}

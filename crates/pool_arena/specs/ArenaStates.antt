@@ -11,8 +11,8 @@ use Rattle.pool_law.specs.ChunkLists.{Lists}
 use Rattle.pool_law.specs.Same.{same_taking}
 use Rattle.pool_law.specs.Arenas.{Arena, new_arena, chunk_at, take, give, chunk_end}
 use Rattle.pool_law.specs.Places.{IsInPlace}
-use Rattle.arena_law.specs.Slots.{IsLocated}
-use Rattle.arena_law.specs.Orderly.{ChunkAtRest}
+use Rattle.arena_laws.specs.Slots.{IsLocated}
+use Rattle.arena_laws.specs.Orderly.{ChunkAtRest}
 
 pub record ArenaState : Type 0 where
   pub number : ℕ

@@ -4,7 +4,7 @@ use Rattle.size_classes.specs.Sizes.{is_small}
 use Rattle.size_classes.specs.Pages.{total_pages, free_pages}
 use Rattle.pool_law.specs.Chunks.{IsChunk}
 use Rattle.pool_law.specs.Arenas.{chunk_at, front_of}
-use Rattle.arena_law.specs.Orderly.{IsOrderly, ChunkAtRest}
+use Rattle.arena_laws.specs.Orderly.{IsOrderly, ChunkAtRest}
 use Rattle.pool_arena.specs.Places.{PlaceState, runs_of}
 use Rattle.pool_arena.specs.Stocks.{StockState, arena_in}
 

@@ -1,11 +1,11 @@
 -- The subpages of a class that have a free element. No public clause cites this module.
 use Rattle.std.specs.Prelude.{◌≡◌, ℕ, List, [], ◌∷◌, map, Option, Some, None}
 use Rattle.std.specs.VecDeque.{deque_capacity}
-use Rattle.pool_arena.specs.declared.front.Spot.{Spot}
-use Rattle.pool_arena.specs.declared.front.Front.TheInside.{Inside}
+use Rattle.pool_arena.specs.declared.front.SubpageAt.{SubpageAt}
+use Rattle.pool_arena.specs.declared.front.SubpageList.TheInside.{Inside}
 
 -- a subpage, by its chunk and first page
-abbrev pub pair_of : Spot → ℕ × ℕ
+abbrev pub pair_of : SubpageAt → ℕ × ℕ
 pair_of s = (s.chunk, s.page)
 
 -- the subpages, the front first, and how many there is room for
@@ -27,6 +27,6 @@ abbrev pub first_spot : List (ℕ × ℕ) → Option (ℕ × ℕ)
 first_spot [] = None
 first_spot (s ∷ spots) = Some s
 
-abbrev pub IsFirst : List (ℕ × ℕ) → Option Spot → Type 0
+abbrev pub IsFirst : List (ℕ × ℕ) → Option SubpageAt → Type 0
 IsFirst spots None = spots ≡ []
 IsFirst spots (Some s) = first_spot spots ≡ Some (pair_of s)

@@ -6,12 +6,12 @@ use Rattle.pool_law.specs.ChunkLists.{list_of}
 use Rattle.pool_law.specs.Chunks.{usage}
 use Rattle.pool_law.specs.Arenas.{chunk_at}
 use Rattle.chunk_list.specs.Settling.{IsWithin}
-use Rattle.arena_law.specs.Orderly.{IsOrderly}
+use Rattle.arena_laws.specs.Orderly.{IsOrderly}
 use Rattle.pool_arena.specs.Places.{PlaceState}
 use Rattle.pool_arena.specs.Fronts.{FrontState, new_front}
 use Rattle.pool_arena.specs.Stocks.{StockState, arena_in}
 use Rattle.pool_arena.specs.ArenaStates.{ArenaState}
-use Rattle.pool_arena.specs.declared.stock.Stock.TheInside.{Inside as StockInside}
+use Rattle.pool_arena.specs.declared.stock.ChunkStock.TheInside.{Inside as StockInside}
 use Rattle.pool_arena.specs.declared.arena.Arena.TheInside.{Inside as ArenaInside}
 
 abbrev pub stock_in : StockInside → StockState

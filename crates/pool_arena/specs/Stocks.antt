@@ -9,8 +9,8 @@ use Rattle.pool_law.specs.declared.report.ListName.{ListName}
 use Rattle.pool_law.specs.Chunks.{Chunk, Sub}
 use Rattle.pool_law.specs.ChunkLists.{Lists, list_of, walk}
 use Rattle.pool_law.specs.Arenas.{Arena, Spotted, chunk_at, elements_at, front_of, with_front, without_spot, with_elements, run_given, with_run, first_holding, take_run, with_subpage}
-use Rattle.arena_law.specs.Orderly.{chunk_of}
-use Rattle.arena_law.specs.Slots.{IsSlot}
+use Rattle.arena_laws.specs.Orderly.{chunk_of}
+use Rattle.arena_laws.specs.Slots.{IsSlot}
 use Rattle.pool_arena.specs.declared.place.Wanted.{Wanted}
 use Rattle.pool_arena.specs.declared.place.Cut.{Cut}
 use Rattle.pool_arena.specs.Places.{pages_wanted, use_wanted}

@@ -3,8 +3,8 @@ use Rattle.std.specs.Prelude.{◌≡◌, List, length, map}
 use Rattle.size_classes.specs.Sizes.{of_order}
 use Rattle.pool_law.specs.declared.id.Region.{Region}
 use Rattle.pool_law.specs.declared.id.RegionId.{RegionId}
-use Rattle.arena_law.specs.Slots.{EachOf, ArenaHolds}
-use Rattle.arena_law.specs.Covered.{IsCovered}
+use Rattle.arena_laws.specs.Slots.{EachOf, ArenaHolds}
+use Rattle.arena_laws.specs.Covered.{IsCovered}
 use Rattle.pool_arena.specs.ArenaStates.{ArenaState, law_of, IsInPlaceUnder}
 
 -- these takings are out of the arena, and no others

@@ -4,7 +4,7 @@ ghost use Rattle.std.specs.Prelude.{◌≡◌, ℕ, ◌+◌, ◌^◌, ◌<◌, �
 ghost use Rattle.size_classes.specs.Sizes.{of_pages, IsGeometry, class_count};
 ghost use Rattle.pool_law.specs.Arenas.{listed};
 
-use crate::stock::Stock;
+use crate::stock::ChunkStock;
 use pool_law::{ChunkEnd, Place, Region, RegionId};
 use std::alloc::{AllocError, Global};
 use std::marker::Model;
@@ -15,7 +15,7 @@ use std::marker::Model;
 /// runs of pages for the others. Only `new` takes memory. It must be spent.
 pub struct Arena {
     number: u32,
-    stock: Stock,
+    stock: ChunkStock,
     takings: u64,
 }
 
@@ -50,7 +50,7 @@ impl Arena {
         requires chunks { (1 ≤ chunks) × (chunks ≤ 8) }
         ensures { IfOk result (λ arena. IsNew number page order chunks arena) }
     {
-        let stock = Stock::new(alloc, page, order, chunks)?;
+        let stock = ChunkStock::new(alloc, page, order, chunks)?;
         Ok(Arena {
             number,
             stock,

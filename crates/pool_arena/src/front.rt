@@ -9,7 +9,7 @@ use std::marker::Model;
 
 /// A subpage, by the chunk place and the page at which it begins.
 #[derive(Clone, Copy, Drop)]
-pub(crate) struct Spot {
+pub(crate) struct SubpageAt {
     pub(crate) chunk: u32,
     pub(crate) page: u32,
 }
@@ -17,11 +17,11 @@ pub(crate) struct Spot {
 /// The subpages of one class that have a free element, the next to be asked first
 /// (Netty: the list of `PoolSubpage`s of a size).
 #[derive(Drop)]
-pub(crate) struct Front {
-    spots: VecDeque<Spot>,
+pub(crate) struct SubpageList {
+    spots: VecDeque<SubpageAt>,
 }
 
-impl Model for Front {
+impl Model for SubpageList {
     ghost use Rattle.pool_arena.specs.Fronts.{FrontState};
 
     ghost Value = { FrontState };
@@ -31,19 +31,19 @@ impl Model for Front {
     ghost view = { front_in };
 }
 
-impl Front {
+impl SubpageList {
     ghost use Rattle.pool_arena.specs.Fronts.{new_front, with_spots, IsFirst, pair_of};
 
     /// No subpage, and room for so many.
-    pub(crate) fn new(alloc: Global, room: usize) -> Result<Front, AllocError>
+    pub(crate) fn new(alloc: Global, room: usize) -> Result<SubpageList, AllocError>
         ensures { IfOk result (λ front. front ≡ new_front room) }
     {
         let spots = VecDeque::with_capacity(alloc, room)?;
-        Ok(Front { spots })
+        Ok(SubpageList { spots })
     }
 
     /// The subpage that is asked next, if there is one.
-    pub(crate) fn first(&self) -> Option<Spot>
+    pub(crate) fn first(&self) -> Option<SubpageAt>
         ensures { IsFirst self.now.spots result }
     {
         self.spots.front().copied()
@@ -57,7 +57,7 @@ impl Front {
     }
 
     /// A subpage enters before the others.
-    pub(crate) fn enter(&mut self, spot: Spot)
+    pub(crate) fn enter(&mut self, spot: SubpageAt)
         requires { length self.old.spots < self.old.room }
         ensures { self.new ≡ with_spots self.old (pair_of spot ∷ self.old.spots) }
     {
@@ -65,7 +65,7 @@ impl Front {
     }
 
     /// A subpage leaves.
-    pub(crate) fn leave(&mut self, spot: Spot)
+    pub(crate) fn leave(&mut self, spot: SubpageAt)
         ensures { self.new
             ≡ with_spots self.old (without_spot spot.chunk spot.page self.old.spots) }
     {

@@ -7,7 +7,7 @@ ghost use Rattle.pool_law.specs.Chunks.{usage, used_bytes, free_bytes};
 ghost use Rattle.pool_law.specs.declared.report.ListName.{ListName};
 ghost use Rattle.pool_law.specs.ChunkLists.{list_of};
 ghost use Rattle.pool_law.specs.Arenas.{new_arena, first_unused, opened, take_element, take_small, take_class, front_of, unless_gone, chunk_at};
-ghost use Rattle.arena_law.specs.Orderly.{IsOrderly, chunk_of};
+ghost use Rattle.arena_laws.specs.Orderly.{IsOrderly, chunk_of};
 ghost use Rattle.chunk_list.specs.Listing.{with_lists};
 ghost use Rattle.chunk_list.specs.Settling.{settled, goes_to, IsWithin};
 ghost use Rattle.pool_arena.specs.Held.{front_for};
@@ -17,7 +17,7 @@ ghost use Rattle.pool_arena.specs.declared.place.Wanted.{Wanted};
 
 mod gives;
 
-use crate::front::{Front, Spot};
+use crate::front::{SubpageAt, SubpageList};
 use crate::place::{ChunkPlace, Cut, Wanted};
 use chunk_list::{ChunkLists, Settled};
 use ground::Piece;
@@ -29,15 +29,15 @@ use std::marker::Model;
 /// The chunks of an arena in their lists, and the subpages that have a free element.
 ///
 /// Only `new` takes memory. It must be spent.
-pub(crate) struct Stock {
+pub(crate) struct ChunkStock {
     classes: SizeClasses,
     page: u32,
     places: Vec<ChunkPlace>,
     lists: ChunkLists,
-    fronts: Vec<Front>,
+    fronts: Vec<SubpageList>,
 }
 
-impl Model for Stock {
+impl Model for ChunkStock {
     ghost use Rattle.pool_arena.specs.Stocks.{StockState};
 
     ghost Value = { StockState };
@@ -49,7 +49,7 @@ impl Model for Stock {
     ghost invariant = { IsStock };
 }
 
-impl Stock {
+impl ChunkStock {
     ghost use Rattle.pool_arena.specs.Stocks.{arena_in, Becomes, Yields, YieldsNone, HasChunk, HasNoChunk, AreListed, CutsFrom, CutsOff, FindsNone, FindsIn, found_in, run_wanted, NewFront, IsOpen, GivesPlace, IsPlaceOut, IsElementOutOf, IsIdleAt, element_back, subpage_given};
 
     /// Chunk places with chunks of `2^order` pages of so many bytes, none of them in use.
@@ -58,7 +58,7 @@ impl Stock {
         page: u32,
         order: u32,
         chunks: u32,
-    ) -> Result<Stock, AllocError>
+    ) -> Result<ChunkStock, AllocError>
         requires sizes { IsGeometry (of_pages order page) }
         requires chunks { (1 ≤ chunks) × (chunks ≤ 8) }
         ensures geometry { IfOk result (λ stock. stock.geometry ≡ of_pages order page) }
@@ -71,7 +71,7 @@ impl Stock {
         let room = chunks as usize * 2usize.pow(order);
         let fronts = new_fronts(alloc, &classes, room)?;
         let places = new_places(alloc, page, order, chunks)?;
-        Ok(Stock {
+        Ok(ChunkStock {
             classes,
             page,
             places,
@@ -160,7 +160,7 @@ impl Stock {
     }
 
     // A subpage of a class that has none, which is then its front.
-    fn new_subpage(&mut self, class: u32) -> Option<Spot>
+    fn new_subpage(&mut self, class: u32) -> Option<SubpageAt>
         requires class { (class < class_count self.old.geometry)
             × (is_small self.old.geometry class ≡ true) }
         requires orderly { IsOrderly self.old.geometry (arena_in self.old) }
@@ -174,13 +174,13 @@ impl Stock {
         let Cut::Subpage(page) = cut else {
             unreachable!();
         };
-        let spot = Spot { chunk, page };
+        let spot = SubpageAt { chunk, page };
         self.fronts[class as usize].enter(spot);
         Some(spot)
     }
 
     // The next element of a subpage, which leaves its list if it is then full.
-    fn take_element(&mut self, class: u32, spot: Spot) -> Piece
+    fn take_element(&mut self, class: u32, spot: SubpageAt) -> Piece
         requires class { class < class_count self.old.geometry }
         requires room { IsOpen self.old class spot.chunk spot.page }
         requires some { NoneEmpty (chunk_at (arena_in self.old) spot.chunk) }
@@ -271,7 +271,7 @@ impl Stock {
         requires { IsResting self }
     {
         self.drop_idle();
-        let Stock {
+        let ChunkStock {
             classes: _,
             page: _,
             places,
@@ -283,7 +283,7 @@ impl Stock {
 
     /// Keeps all memory until the program ends.
     pub(crate) fn leave(self) {
-        let Stock {
+        let ChunkStock {
             classes: _,
             page: _,
             mut places,
@@ -327,14 +327,18 @@ fn first_unused(places: &[ChunkPlace]) -> Option<usize>
 }
 
 // A front for each class, without a subpage: those of small classes have room for so many.
-fn new_fronts(alloc: Global, classes: &SizeClasses, room: usize) -> Result<Vec<Front>, AllocError>
+fn new_fronts(
+    alloc: Global,
+    classes: &SizeClasses,
+    room: usize,
+) -> Result<Vec<SubpageList>, AllocError>
     ensures { IfOk result (λ fronts. fronts.items
         ≡ map (front_for classes.now room) (below (class_count classes.now))) }
 {
     let mut fronts = Vec::with_capacity(alloc, classes.count() as usize)?;
     for class in 0..classes.count() {
         let room = if classes.is_small(class) { room } else { 0 };
-        let front = Front::new(alloc, room)?;
+        let front = SubpageList::new(alloc, room)?;
         fronts.push(front)?;
     }
     Ok(fronts)

@@ -9,11 +9,11 @@ use Rattle.size_classes.specs.Elements.{Elements, next_element, with_out}
 use Rattle.size_classes.proofs.Runs.{Begins-run_at}
 use Rattle.subpage_bits.specs.Elements.{SharedRun, IsElementOf}
 use Rattle.pool_law.specs.Chunks.{Use, Sub, IsSubpage}
-use Rattle.pool_chunk.specs.declared.slot.Slot.{Slot}
+use Rattle.pool_chunk.specs.declared.slot.PageUse.{PageUse}
 use Rattle.pool_chunk.specs.declared.slot.CutRun.{CutRun}
 use Rattle.pool_chunk.specs.declared.chunk.Chunk.TheInside.{Inside}
 use Rattle.pool_chunk.specs.ChunkStates.{with_runs, with_elements, IsBytesAt, page_start, element_start, HasSubpage}
-use Rattle.pool_chunk.specs.Slots.{Entry, entry_of, AreOf, IsCutAt, IsPlaced, with_subpage, HandsOutOf}
+use Rattle.pool_chunk.specs.Slots.{PageEntry, entry_of, AreOf, IsCutAt, IsPlaced, with_subpage, HandsOutOf}
 use Rattle.pool_chunk.specs.Held.{entries_in, runs_in, state_in, IsHeld}
 use Rattle.pool_chunk.specs.PlaceWords.{element_word}
 use Rattle.pool_chunk.specs.Outcomes.{TakesElement}
@@ -43,16 +43,16 @@ module _ (c : Inside) (is : IsHeld c) (page : ℕ) (h : HasSubpage (state_in c) 
   cut-room = omega (arith, cut-within, c.slots.ok.0)
 
   -- the slot is that of a run that is cut
-  pub cut-there : (run : CutRun) × ((d : Slot) → get_or c.slots.items page d ≡ Slot.Cut run)
+  pub cut-there : (run : CutRun) × ((d : PageUse) → get_or c.slots.items page d ≡ PageUse.Cut run)
   cut-there =
       let found = slot-cut c.classes c.map.runs c.slots.items (runs_in c) is.runs page h.pages h.class h.elements
       cut-begins in
       (found.0, found.1)
 
-  pub cut-no_other : (x : Slot) → x ≡ get_or c.slots.items page x → ((run : CutRun) → x ≡ Slot.Cut run → ⊥) → ⊥
+  pub cut-no_other : (x : PageUse) → x ≡ get_or c.slots.items page x → ((run : CutRun) → x ≡ PageUse.Cut run → ⊥) → ⊥
   cut-no_other x here other = other cut-there.0 (here ∙ cut-there.1 x)
 
-  module _ (x : Slot) (run : CutRun) (here : x ≡ get_or c.slots.items page x) (cut : x ≡ Slot.Cut run) where
+  module _ (x : PageUse) (run : CutRun) (here : x ≡ get_or c.slots.items page x) (cut : x ≡ PageUse.Cut run) where
     pub cut-is : Cuts run h.pages h.class h.elements
     cut-is =
         slot-cuts c.classes c.map.runs c.slots.items (runs_in c) is.runs page h.pages h.class h.elements x run
@@ -61,8 +61,8 @@ module _ (c : Inside) (is : IsHeld c) (page : ℕ) (h : HasSubpage (state_in c) 
     pub cut-placed : IsCutAt c.map.origin (page_of c.classes) page run
     cut-placed =
         let at = placed-get c.map.origin (page_of c.classes) 0 page c.slots.items x is.placed cut-within in
-        let there : get_or c.slots.items page x ≡ Slot.Cut run = sym here ∙ cut in
-        subst (λ (s : Slot). IsPlaced c.map.origin (page_of c.classes) page s) there
+        let there : get_or c.slots.items page x ≡ PageUse.Cut run = sym here ∙ cut in
+        subst (λ (s : PageUse). IsPlaced c.map.origin (page_of c.classes) page s) there
         (subst (λ (i : ℕ). IsPlaced c.map.origin (page_of c.classes) i (get_or c.slots.items page x)) (zero-add page)
         at)
 
@@ -92,24 +92,24 @@ module _ (c : Inside) (is : IsHeld c) (page : ℕ) (h : HasSubpage (state_in c) 
 
     module _ (d : Inside) (f : Elements) (after : CutRun) (changed : after ≡ with_others run f)
         (fits : IsSubpage c.classes h.pages h.class f)
-        (follows : Follows c d c.map.runs (slice_set c.slots.items page (Slot.Cut after))) where
-      entry : ◌≡◌ {A = Entry} (entry_of (Slot.Cut after)) (Some (h.pages, Sub h.class f))
+        (follows : Follows c d c.map.runs (slice_set c.slots.items page (PageUse.Cut after))) where
+      entry : ◌≡◌ {A = PageEntry} (entry_of (PageUse.Cut after)) (Some (h.pages, Sub h.class f))
       entry =
-          ap (λ (r : CutRun). entry_of (Slot.Cut r)) changed
+          ap (λ (r : CutRun). entry_of (PageUse.Cut r)) changed
           ∙ ap₂ (λ (n k : ℕ). Some (n, Sub k f)) cut-is.pages cut-is.class_is
 
-      of : AreOf c.classes c.map.runs (map entry_of (slice_set c.slots.items page (Slot.Cut after)))
+      of : AreOf c.classes c.map.runs (map entry_of (slice_set c.slots.items page (PageUse.Cut after)))
           (with_elements page h.class f (runs_in c))
       of =
-          subst (λ (es : List Entry). AreOf c.classes c.map.runs es (with_elements page h.class f (runs_in c)))
-          (sym (entries-set c.slots.items page (Slot.Cut after) (Some (h.pages, Sub h.class f)) entry))
+          subst (λ (es : List PageEntry). AreOf c.classes c.map.runs es (with_elements page h.class f (runs_in c)))
+          (sym (entries-set c.slots.items page (PageUse.Cut after) (Some (h.pages, Sub h.class f)) entry))
           (elements-of c.classes c.map.runs (entries_in c) (runs_in c) page is.runs h.pages h.class h.elements f
           cut-begins fits)
 
       -- the chunk is seen with these elements, and holds them
       pub cut-state : state_in d ≡ with_runs (state_in c) (with_elements page h.class f (runs_in c))
       cut-state =
-          state-after c d c.map.runs (slice_set c.slots.items page (Slot.Cut after))
+          state-after c d c.map.runs (slice_set c.slots.items page (PageUse.Cut after))
           (with_elements page h.class f (runs_in c)) follows of
 
       pub cut-held : IsHeld d
@@ -117,15 +117,15 @@ module _ (c : Inside) (is : IsHeld c) (page : ℕ) (h : HasSubpage (state_in c) 
           let there : IsCutAt c.map.origin (page_of c.classes) page after =
           subst (λ (r : CutRun). IsCutAt c.map.origin (page_of c.classes) page r) (sym changed)
           (record { origin = cut-placed.origin; start = cut-placed.start; size = cut-placed.size }) in
-          held-after c d c.map.runs (slice_set c.slots.items page (Slot.Cut after))
+          held-after c d c.map.runs (slice_set c.slots.items page (PageUse.Cut after))
           (with_elements page h.class f (runs_in c)) follows of is
-          (placed-set c.map.origin (page_of c.classes) 0 page c.slots.items (Slot.Cut after) is.placed
+          (placed-set c.map.origin (page_of c.classes) 0 page c.slots.items (PageUse.Cut after) is.placed
           (subst (λ (i : ℕ). IsCutAt c.map.origin (page_of c.classes) i after) (sym (zero-add page)) there))
 
 -- the subpage after its next element is asked for
-module _ (c : Inside) (is : IsHeld c) (page : ℕ) (h : HasSubpage (state_in c) page) (x : Slot) (run : CutRun)
-    (here : x ≡ get_or c.slots.items page x) (cut : x ≡ Slot.Cut run)
-    (d : Inside) (after : CutRun) (follows : Follows c d c.map.runs (slice_set c.slots.items page (Slot.Cut after)))
+module _ (c : Inside) (is : IsHeld c) (page : ℕ) (h : HasSubpage (state_in c) page) (x : PageUse) (run : CutRun)
+    (here : x ≡ get_or c.slots.items page x) (cut : x ≡ PageUse.Cut run)
+    (d : Inside) (after : CutRun) (follows : Follows c d c.map.runs (slice_set c.slots.items page (PageUse.Cut after)))
   where
     cuts : Cuts run h.pages h.class h.elements
     cuts = cut-is c is page h x run here cut
@@ -165,8 +165,8 @@ module _ (c : Inside) (is : IsHeld c) (page : ℕ) (h : HasSubpage (state_in c) 
         }
 
 -- the bytes of the elements of a subpage are those of its run
-pub cut-run : (c : Inside) (is : IsHeld c) (page : ℕ) (h : HasSubpage (state_in c) page) (x : Slot) (run : CutRun)
-    → x ≡ get_or c.slots.items page x → x ≡ Slot.Cut run
+pub cut-run : (c : Inside) (is : IsHeld c) (page : ℕ) (h : HasSubpage (state_in c) page) (x : PageUse) (run : CutRun)
+    → x ≡ get_or c.slots.items page x → x ≡ PageUse.Cut run
     → (s : Segment) → (s.origin ≡ run.subpage.origin) × (s.start ≡ run.subpage.start)
     → length s.bytes ≡ length run.subpage.elements.out * run.subpage.size
     → IsBytesAt (state_in c) (page_start (state_in c) page) (page_start (state_in c) h.pages) s

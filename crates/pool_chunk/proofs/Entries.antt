@@ -8,20 +8,20 @@ use Rattle.size_classes.specs.Runs.{Begins}
 use Rattle.size_classes.specs.Elements.{Elements}
 use Rattle.pool_law.specs.Chunks.{Chunk, Use, Sub}
 use Rattle.pool_chunk.specs.ChunkStates.{with_elements}
-use Rattle.pool_chunk.specs.Slots.{Entry, entries_in, entries, runs_from}
+use Rattle.pool_chunk.specs.Slots.{PageEntry, entries_in, entries, runs_from}
 use mathlib.Core.Logic.{inl, inr}
 
 -- ---- the runs again
 
-abbrev nothing : Entry
+abbrev nothing : PageEntry
 nothing = None
 
-runs_from-skip : (n : ℕ) (spans : List Span) (es : List Entry)
+runs_from-skip : (n : ℕ) (spans : List Span) (es : List PageEntry)
     → runs_from n spans (replicate n nothing ++ es) ≡ runs_from 0 spans es
 runs_from-skip zero spans es = refl
 runs_from-skip (suc n) spans es = runs_from-skip n spans es
 
-skipped : (n m : ℕ) (spans : List Span) (es : List Entry) → n ≡ m
+skipped : (n m : ℕ) (spans : List Span) (es : List PageEntry) → n ≡ m
     → runs_from n spans (replicate m nothing ++ es) ≡ runs_from 0 spans es
 skipped n m spans es e = ap (λ (k : ℕ). runs_from k spans (replicate m nothing ++ es)) e ∙ runs_from-skip m spans es
 
@@ -50,17 +50,18 @@ length-entries (r ∷ rs) ne =
     omega (arith, length-append (entries_in r) (entries rs), length-entries_in r ne.0, length-entries rs ne.1)
 
 -- the first entry of a run
-abbrev pub entry_in : Run Use → Entry
+abbrev pub entry_in : Run Use → PageEntry
 entry_in (Free n) = None
 entry_in (Used n what) = Some (n, what)
 
-first_in : (r : Run Use) (es : List Entry) (d : Entry) → 0 < pages_in r → get_or (entries_in r ++ es) 0 d ≡ entry_in r
+first_in : (r : Run Use) (es : List PageEntry) (d : PageEntry) → 0 < pages_in r → get_or (entries_in r ++ es) 0 d ≡
+    entry_in r
 first_in (Free zero) es d h = absurd (omega arith)
 first_in (Free (suc n)) es d h = refl
 first_in (Used n what) es d h = refl
 
 -- the entry at the page at which a run begins
-pub entries-at : (rs : Chunk) (at : ℕ) (r : Run Use) (d : Entry) → NoneEmpty rs → Begins at r rs
+pub entries-at : (rs : Chunk) (at : ℕ) (r : Run Use) (d : PageEntry) → NoneEmpty rs → Begins at r rs
     → get_or (entries rs) at d ≡ entry_in r
 entries-at [] at r d ne b = absurd b
 entries-at (s ∷ rs) at r d ne (inl b) =
@@ -71,7 +72,7 @@ entries-at (s ∷ rs) at r d ne (inr b) =
     ∙ get_or-append-add (entries_in s) (entries rs) b.0 d ∙ entries-at rs b.0 r d ne.1 b.2
 
 -- no run begins at the other pages of one
-pub entries-inside : (rs : Chunk) (at k : ℕ) (r : Run Use) (d : Entry) → NoneEmpty rs → Begins at r rs → at < k
+pub entries-inside : (rs : Chunk) (at k : ℕ) (r : Run Use) (d : PageEntry) → NoneEmpty rs → Begins at r rs → at < k
     → k < at + pages_in r
     → get_or (entries rs) k d ≡ None
 entries-inside [] at k r d ne b from within = absurd b
@@ -80,7 +81,7 @@ entries-inside (s ∷ rs) at k r d ne (inl b) from within =
     get_or_append_left (entries_in s) (entries rs) d k (omega (arith, length-entries_in s ne.0, below))
     ∙ in_run s k d (omega (arith, from, b.0)) below
   where
-    in_run : (s : Run Use) (k : ℕ) (d : Entry) → 0 < k → k < pages_in s → get_or (entries_in s) k d ≡ None
+    in_run : (s : Run Use) (k : ℕ) (d : PageEntry) → 0 < k → k < pages_in s → get_or (entries_in s) k d ≡ None
     in_run (Free n) k d some below = get_or-replicate n k nothing d below
     in_run (Used n what) zero d some below = absurd (omega (arith, some))
     in_run (Used n what) (suc k) d some below = get_or-replicate (n - 1) k nothing d (omega (arith, below))
@@ -96,11 +97,12 @@ entries-inside (s ∷ rs) at k r d ne (inr b) from within =
 entries-append : (xs ys : Chunk) → entries (xs ++ ys) ≡ entries xs ++ entries ys
 entries-append [] ys = refl
 entries-append (x ∷ xs) ys =
-    ap (λ (es : List Entry). entries_in x ++ es) (entries-append xs ys)
+    ap (λ (es : List PageEntry). entries_in x ++ es) (entries-append xs ys)
     ∙ sym (append_assoc (entries_in x) (entries xs) (entries ys))
 
 -- where others replace a run so that its first entry alone changes, just this entry changes
-pub entries-replaced : (rs : Chunk) (at : ℕ) (by : Run Use → List (Run Use)) (r : Run Use) (x : Entry) → NoneEmpty rs
+pub entries-replaced : (rs : Chunk) (at : ℕ) (by : Run Use → List (Run Use)) (r : Run Use) (x : PageEntry) → NoneEmpty
+    rs
     → Begins at r rs
     → entries (by r) ≡ slice_set (entries_in r) 0 x → entries (replaced at by rs) ≡ slice_set (entries rs) at x
 entries-replaced [] at by r x ne b change = absurd b
@@ -110,7 +112,7 @@ entries-replaced (s ∷ rs) at by r x ne (inl b) change =
     let some : 0 < length (entries_in s) = omega (arith, length-entries_in s ne.0, ne.0) in
     rw (here, b.0) (
     entries-append (by s) rs
-    ∙ ap (λ (es : List Entry). es ++ entries rs) (subst P b.1 change)
+    ∙ ap (λ (es : List PageEntry). es ++ entries rs) (subst P b.1 change)
     ∙ sym (set-append_left (entries_in s) (entries rs) 0 x some)
     )
 entries-replaced (s ∷ rs) at by r x ne (inr b) change =
@@ -118,7 +120,7 @@ entries-replaced (s ∷ rs) at by r x ne (inr b) change =
     let rest : at - pages_in s ≡ b.0 = omega (arith, b.1) in
     let past : pages_in s ≤ at = omega (arith, b.1) in
     rw (not_here, rest) (
-    ap (λ (es : List Entry). entries_in s ++ es) (entries-replaced rs b.0 by r x ne.1 b.2 change)
+    ap (λ (es : List PageEntry). entries_in s ++ es) (entries-replaced rs b.0 by r x ne.1 b.2 change)
     ∙ ap (λ (k : ℕ). entries_in s ++ slice_set (entries rs) k x) (sym rest)
     ∙ sym (set-append_right (entries_in s) (entries rs) (pages_in s) at x (length-entries_in s ne.0) past)
     )
@@ -127,7 +129,7 @@ entries-rest : (n : ℕ) → entries (rest_of n) ≡ replicate n nothing
 entries-rest zero = refl
 entries-rest (suc n) = append-nil (replicate (suc n) nothing)
 
-set-first : (n : ℕ) (x : Entry) → 0 < n → slice_set (replicate n nothing) 0 x ≡ x ∷ replicate (n - 1) nothing
+set-first : (n : ℕ) (x : PageEntry) → 0 < n → slice_set (replicate n nothing) 0 x ≡ x ∷ replicate (n - 1) nothing
 set-first zero x h = absurd (omega arith)
 set-first (suc n) x h = let same : n ≡ suc n - 1 = omega arith in ap (λ (k : ℕ). x ∷ replicate k nothing) same
 
@@ -135,8 +137,8 @@ front-entries : (n pages : ℕ) (what : Use) → 0 < pages → pages ≤ n
     → entries (front_used pages what (Free n)) ≡ slice_set (entries_in (Free n)) 0 (Some (pages, what))
 front-entries n pages what some fits =
     let sum : pages - 1 + (n - pages) ≡ n - 1 = omega (arith, some, fits) in
-    ap (λ (es : List Entry). Some (pages, what) ∷ replicate (pages - 1) nothing ++ es) (entries-rest (n - pages))
-    ∙ ap (λ (es : List Entry). Some (pages, what) ∷ es)
+    ap (λ (es : List PageEntry). Some (pages, what) ∷ replicate (pages - 1) nothing ++ es) (entries-rest (n - pages))
+    ∙ ap (λ (es : List PageEntry). Some (pages, what) ∷ es)
     (replicate-append-replicate (pages - 1) (n - pages) nothing ∙ ap (λ (k : ℕ). replicate k nothing) sum)
     ∙ sym (set-first n (Some (pages, what)) (omega (arith, some, fits)))
 
@@ -150,7 +152,7 @@ entries-taken rs at n pages what ne b some fits =
 
 entries-joined : (r : Run Use) (rs : Chunk) → entries (joined r rs) ≡ entries_in r ++ entries rs
 entries-joined (Free n) (Free m ∷ rs) =
-    ap (λ (es : List Entry). es ++ entries rs) (sym (replicate-append-replicate n m nothing))
+    ap (λ (es : List PageEntry). es ++ entries rs) (sym (replicate-append-replicate n m nothing))
     ∙ append_assoc (replicate n nothing) (replicate m nothing) (entries rs)
 entries-joined (Free n) (Used m what ∷ rs) = refl
 entries-joined (Free n) [] = refl
@@ -159,7 +161,7 @@ entries-joined (Used n what) rs = refl
 entries-merged : (rs : Chunk) → entries (merged rs) ≡ entries rs
 entries-merged [] = refl
 entries-merged (r ∷ rs) =
-    entries-joined r (merged rs) ∙ ap (λ (es : List Entry). entries_in r ++ es) (entries-merged rs)
+    entries-joined r (merged rs) ∙ ap (λ (es : List PageEntry). entries_in r ++ es) (entries-merged rs)
 
 freed-entries : (n : ℕ) (what : Use) → 0 < n → entries (freed (Used n what))
     ≡ slice_set (entries_in (Used n what)) 0 nothing
@@ -182,4 +184,4 @@ pub entries-elements : (rs : Chunk) (at n class : ℕ) (e f : Elements) → None
 entries-elements rs at n class e f ne b =
     entries-replaced rs at (λ r. Used (pages_in r) (Sub class f) ∷ []) (Used n (Sub class e)) (Some (n, Sub class f)) ne
     b
-    (ap (λ (es : List Entry). Some (n, Sub class f) ∷ es) (append-nil (replicate (n - 1) nothing)))
+    (ap (λ (es : List PageEntry). Some (n, Sub class f) ∷ es) (append-nil (replicate (n - 1) nothing)))

@@ -12,26 +12,26 @@ use Rattle.size_classes.specs.Spans.{taken_from, given_back, IsOut}
 use Rattle.size_classes.specs.Runs.{Begins}
 use Rattle.size_classes.proofs.Runs.{Begins-inside, Begins-run_at}
 use Rattle.run_map.specs.FreeRuns.{FreeRuns, geometry_in, IsRunOf, IsTaken, span_of, IsPages}
-use Rattle.run_map.specs.FreeRuns.{with_runs as with_spans, all_free as all_spans, IsChunk as IsPagesGround}
+use Rattle.run_map.specs.FreeRuns.{with_runs as with_spans, all_free as all_spans, IsChunkGround as IsPagesGround}
 use Rattle.pool_law.specs.Chunks.{Chunk, Use, new_chunk}
-use Rattle.pool_chunk.specs.declared.slot.Slot.{Slot}
+use Rattle.pool_chunk.specs.declared.slot.PageUse.{PageUse}
 use Rattle.pool_chunk.specs.PlaceWords.{AreFields}
 use Rattle.pool_chunk.specs.declared.chunk.Chunk.TheInside.{Inside}
 use Rattle.pool_chunk.specs.ChunkStates.{ChunkState, with_runs, geometry_on, all_free, IsChunkGround, IsBytesAt, page_start}
-use Rattle.pool_chunk.specs.Slots.{Entry, entry_of, AreOf, IsPlaced, ArePlaced}
+use Rattle.pool_chunk.specs.Slots.{PageEntry, entry_of, AreOf, IsPlaced, ArePlaced}
 use Rattle.pool_chunk.specs.Held.{entries_in, runs_in, state_in, IsHeld}
 use Rattle.pool_chunk.proofs.ChunkLaws.{Fits, run-some}
 use Rattle.pool_chunk.proofs.Steps.{the-runs, of-runs, taken-of, given-of, run-out, chosen-begins}
 use Rattle.pool_chunk.proofs.SlotLaws.{entries-set, placed-set, entries-nothing, placed-nothing}
 
 -- the second has other free runs and other slots than the first
-pub record Follows (c d : Inside) (spans : List Span) (slots : List Slot) : Type 0 where
+pub record Follows (c d : Inside) (spans : List Span) (slots : List PageUse) : Type 0 where
   pub map_is : d.map ≡ with_spans c.map spans
   pub classes : d.classes ≡ c.classes
   pub bytes : d.bytes ≡ c.bytes
   pub slots_are : d.slots.items ≡ slots
 
-module _ (c d : Inside) (spans : List Span) (slots : List Slot) (runs : Chunk) (follows : Follows c d spans slots)
+module _ (c d : Inside) (spans : List Span) (slots : List PageUse) (runs : Chunk) (follows : Follows c d spans slots)
     (of : AreOf c.classes spans (map entry_of slots) runs) where
   are : AreOf d.classes d.map.runs (entries_in d) runs
   are =
@@ -62,7 +62,7 @@ module _ (c d : Inside) (spans : List Span) (slots : List Slot) (runs : Chunk) (
         runs = of-runs d.classes d.map.runs (entries_in d) runs are;
         placed =
             subst (λ (g : Geometry). ArePlaced d.map.origin (page_of g) 0 d.slots.items) (sym follows.classes)
-            (subst (λ (ss : List Slot). ArePlaced d.map.origin (page_of c.classes) 0 ss) (sym follows.slots_are)
+            (subst (λ (ss : List PageUse). ArePlaced d.map.origin (page_of c.classes) 0 ss) (sym follows.slots_are)
             (subst (λ (m : FreeRuns). ArePlaced m.origin (page_of c.classes) 0 slots) (sym follows.map_is) placed));
       }
 
@@ -111,13 +111,13 @@ module _ (c : Inside) (is : IsHeld c) (m : FreeRuns) (pages page : ℕ) (piece :
         omega (arith, few, inside, is.runs.chunk.covers, taken-begins.1),
       )
 
-  module _ (d : Inside) (what : Use) (slot : Slot) (some : 0 < pages) (entry : entry_of slot ≡ Some (pages, what))
+  module _ (d : Inside) (what : Use) (slot : PageUse) (some : 0 < pages) (entry : entry_of slot ≡ Some (pages, what))
       (fits : Fits c.classes (Used pages what))
       (follows : Follows c d (taken_from page pages c.map.runs) (slice_set c.slots.items page slot)) where
     of : AreOf c.classes (taken_from page pages c.map.runs) (map entry_of (slice_set c.slots.items page slot))
         (taken_at page pages what (runs_in c))
     of =
-        subst (λ (es : List Entry). AreOf c.classes (taken_from page pages c.map.runs) es
+        subst (λ (es : List PageEntry). AreOf c.classes (taken_from page pages c.map.runs) es
         (taken_at page pages what (runs_in c)))
         (sym (entries-set c.slots.items page slot (Some (pages, what)) entry))
         (taken-of c.classes c.map.runs (entries_in c) (runs_in c) page is.runs taken.long pages what taken-begins.0 some
@@ -171,28 +171,29 @@ module _ (c : Inside) (is : IsHeld c) (page pages : ℕ) (what : Use) (piece : S
       (run-out c.classes c.map.runs (entries_in c) (runs_in c) page is.runs pages what begins))
 
   module _ (d : Inside) (follows : Follows c d (given_back (span_of c.map.page piece) c.map.runs)
-      (slice_set c.slots.items page Slot.Nothing)) where
+      (slice_set c.slots.items page PageUse.Nothing)) where
     given : AreOf c.classes (given_back (span_of c.map.page piece) c.map.runs)
-        (map entry_of (slice_set c.slots.items page Slot.Nothing)) (given_at page (runs_in c))
+        (map entry_of (slice_set c.slots.items page PageUse.Nothing)) (given_at page (runs_in c))
     given =
         subst (λ (x : Span). AreOf c.classes (given_back x c.map.runs)
-        (map entry_of (slice_set c.slots.items page Slot.Nothing)) (given_at page (runs_in c))) (sym given-span)
-        (subst (λ (es : List Entry). AreOf c.classes (given_back (page, pages) c.map.runs) es
+        (map entry_of (slice_set c.slots.items page PageUse.Nothing)) (given_at page (runs_in c))) (sym given-span)
+        (subst (λ (es : List PageEntry). AreOf c.classes (given_back (page, pages) c.map.runs) es
         (given_at page (runs_in c)))
-        (sym (entries-set c.slots.items page Slot.Nothing None refl))
+        (sym (entries-set c.slots.items page PageUse.Nothing None refl))
         (given-of c.classes c.map.runs (entries_in c) (runs_in c) page is.runs pages what begins))
 
     -- the chunk is seen with the run given back, and holds it
     pub given-state : state_in d ≡ with_runs (state_in c) (given_at page (runs_in c))
     given-state =
-        state-after c d (given_back (span_of c.map.page piece) c.map.runs) (slice_set c.slots.items page Slot.Nothing)
+        state-after c d (given_back (span_of c.map.page piece) c.map.runs) (slice_set c.slots.items page
+        PageUse.Nothing)
         (given_at page (runs_in c)) follows given
 
     pub given-held : IsHeld d
     given-held =
-        held-after c d (given_back (span_of c.map.page piece) c.map.runs) (slice_set c.slots.items page Slot.Nothing)
+        held-after c d (given_back (span_of c.map.page piece) c.map.runs) (slice_set c.slots.items page PageUse.Nothing)
         (given_at page (runs_in c)) follows given is
-        (placed-set c.map.origin (page_of c.classes) 0 page c.slots.items Slot.Nothing is.placed tt)
+        (placed-set c.map.origin (page_of c.classes) 0 page c.slots.items PageUse.Nothing is.placed tt)
 
 -- ---- the fields of a word
 
@@ -224,7 +225,7 @@ module _ (d : Inside) (order : ℕ) (piece : Segment) (sizes : IsGeometry (geome
     (stands : IsChunkGround (geometry_on order piece) piece)
     (map_is : d.map ≡ all_spans order piece) (classes : d.classes ≡ geometry_on order piece)
     (bytes : d.bytes ≡ length piece.bytes)
-    (slots : d.slots.items ≡ replicate (2 ^ order) Slot.Nothing) where
+    (slots : d.slots.items ≡ replicate (2 ^ order) PageUse.Nothing) where
   new-runs : AreOf d.classes d.map.runs (entries_in d) (new_chunk (geometry_on order piece))
   new-runs =
       let some : 0 < 2 ^ order = pow_pos order in
@@ -252,7 +253,7 @@ module _ (d : Inside) (order : ℕ) (piece : Segment) (sizes : IsGeometry (geome
         bytes = bytes ∙ stands.1 ∙ ap chunk_bytes (sym classes);
         runs = of-runs d.classes d.map.runs (entries_in d) (new_chunk (geometry_on order piece)) new-runs;
         placed =
-            subst (λ (ss : List Slot). ArePlaced d.map.origin (page_of d.classes) 0 ss) (sym slots)
+            subst (λ (ss : List PageUse). ArePlaced d.map.origin (page_of d.classes) 0 ss) (sym slots)
             (placed-nothing d.map.origin (page_of d.classes) 0 (2 ^ order));
       }
 

@@ -7,11 +7,11 @@ use Rattle.size_classes.specs.Elements.{Elements, new_elements}
 use Rattle.run_map.specs.FreeRuns.{FreeRuns, IsTaken}
 use Rattle.subpage_bits.specs.Elements.{SharedRun, new_shared}
 use Rattle.pool_law.specs.Chunks.{Sub}
-use Rattle.pool_chunk.specs.declared.slot.Slot.{Slot}
+use Rattle.pool_chunk.specs.declared.slot.PageUse.{PageUse}
 use Rattle.pool_chunk.specs.declared.slot.CutRun.{CutRun}
 use Rattle.pool_chunk.specs.declared.chunk.Chunk.TheInside.{Inside}
 use Rattle.pool_chunk.specs.Outcomes.{new_subpage}
-use Rattle.pool_chunk.specs.Slots.{Entry, entry_of, IsCutAt}
+use Rattle.pool_chunk.specs.Slots.{PageEntry, entry_of, IsCutAt}
 use Rattle.pool_chunk.specs.Held.{IsHeld}
 use Rattle.pool_chunk.proofs.SubpageTable.{whole_elements, few_elements}
 
@@ -38,7 +38,7 @@ module _ (c : Inside) (is : IsHeld c) (class : ℕ) (small : is_small c.classes 
     module _ (run : CutRun) (class_is : run.class ≡ class) (pages_is : run.pages ≡ subpage_pages c.classes class)
         (subpage_is : run.subpage ≡ new_shared piece size) where
       -- what begins at the page is a new subpage of the class
-      pub new-entry : ◌≡◌ {A = Entry} (entry_of (Slot.Cut run))
+      pub new-entry : ◌≡◌ {A = PageEntry} (entry_of (PageUse.Cut run))
           (Some (subpage_pages c.classes class, new_subpage c.classes class))
       new-entry =
           let elements : run.subpage.elements ≡ new_elements (element_count c.classes class) =

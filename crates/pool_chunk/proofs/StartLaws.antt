@@ -5,7 +5,7 @@ use Rattle.std.proofs.lemmas.Bool.{cases_lt}
 use Rattle.size_classes.specs.Pages.{Used, run_at, run_start}
 use Rattle.size_classes.specs.Runs.{Begins}
 use Rattle.size_classes.proofs.Runs.{Begins-inside, Begins-run_at, run_start-Begins}
-use Rattle.pool_chunk.specs.declared.slot.Slot.{Slot}
+use Rattle.pool_chunk.specs.declared.slot.PageUse.{PageUse}
 use Rattle.pool_chunk.specs.declared.chunk.Chunk.TheInside.{Inside}
 use Rattle.pool_chunk.specs.ChunkStates.{ChunkState, IsInUse}
 use Rattle.pool_chunk.specs.Held.{runs_in, state_in, IsHeld}
@@ -29,7 +29,7 @@ module _ (c : Inside) (is : IsHeld c) (page : ℕ) (h : IsInUse (state_in c) pag
       )
 
   -- a page at which nothing begins is behind the start
-  pub start-behind : (at : ℕ) (x : Slot) → h.start ≤ at → x ≡ get_or c.slots.items at x → x ≡ Slot.Nothing
+  pub start-behind : (at : ℕ) (x : PageUse) → h.start ≤ at → x ≡ get_or c.slots.items at x → x ≡ PageUse.Nothing
       → h.start < at
   start-behind at x from here nothing = by (cases_lt h.start at)
     where
@@ -41,8 +41,8 @@ module _ (c : Inside) (is : IsHeld c) (page : ℕ) (h : IsInUse (state_in c) pag
           (subst (λ (k : ℕ). x ≡ get_or c.slots.items k x) same here) nothing)
 
   -- the first at which something does, from the page down, is the start
-  pub start-found : (at : ℕ) (x : Slot) → h.start ≤ at → at ≤ page → x ≡ get_or c.slots.items at x
-      → (x ≡ Slot.Nothing → ⊥)
+  pub start-found : (at : ℕ) (x : PageUse) → h.start ≤ at → at ≤ page → x ≡ get_or c.slots.items at x
+      → (x ≡ PageUse.Nothing → ⊥)
       → at ≡ run_start page (runs_in c)
   start-found at x from le here some = by (cases_lt h.start at)
     where

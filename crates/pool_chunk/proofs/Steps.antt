@@ -14,21 +14,21 @@ use Rattle.size_classes.proofs.Runs.{Begins-apart, Begins-inside, Begins-one, Is
 use Rattle.size_classes.proofs.SpanLaws.{free_runs-taken, free_runs-given}
 use Rattle.pool_law.specs.Chunks.{Chunk, Use, Sub, IsSubpage, IsChunk, used_pages, used_bytes, free_bytes}
 use Rattle.pool_chunk.specs.ChunkStates.{with_elements}
-use Rattle.pool_chunk.specs.Slots.{Entry, entries, runs_from, AreOf}
+use Rattle.pool_chunk.specs.Slots.{PageEntry, entries, runs_from, AreOf}
 use Rattle.pool_chunk.proofs.Entries.{runs_from-entries, entries-taken, entries-given, entries-elements}
 use Rattle.pool_chunk.proofs.ChunkLaws.{Fits, run-some, taken-chunk, given-chunk, elements-chunk, used-free}
 use mathlib.Core.Logic.{inl, inr}
 
 -- the runs are those that their free runs and entries make
-pub the-runs : (g : Geometry) (spans : List Span) (es : List Entry) (rs : Chunk) → AreOf g spans es rs
+pub the-runs : (g : Geometry) (spans : List Span) (es : List PageEntry) (rs : Chunk) → AreOf g spans es rs
     → runs_from 0 spans es ≡ rs
 the-runs g spans es rs of =
     ap (λ (ss : List Span). runs_from 0 ss es) (sym of.free)
-    ∙ ap (λ (xs : List Entry). runs_from 0 (free_runs 0 rs) xs) (sym of.entries)
+    ∙ ap (λ (xs : List PageEntry). runs_from 0 (free_runs 0 rs) xs) (sym of.entries)
     ∙ runs_from-entries 0 rs of.chunk.none_empty
 
 -- so what is of the runs is of those
-pub of-runs : (g : Geometry) (spans : List Span) (es : List Entry) (rs : Chunk) → AreOf g spans es rs
+pub of-runs : (g : Geometry) (spans : List Span) (es : List PageEntry) (rs : Chunk) → AreOf g spans es rs
     → AreOf g spans es (runs_from 0 spans es)
 of-runs g spans es rs of = subst (λ (xs : Chunk). AreOf g spans es xs) (sym (the-runs g spans es rs of)) of
 
@@ -46,7 +46,7 @@ free_runs-elements (r ∷ rs) from at n class e f ne (inr b) =
     rw (not_here, rest) (ap (λ (ss : List Span). add_free from r ss)
     (free_runs-elements rs (from + pages_in r) b.0 n class e f ne.1 b.2))
 
-module _ (g : Geometry) (spans : List Span) (es : List Entry) (rs : Chunk) (at : ℕ) (of : AreOf g spans es rs) where
+module _ (g : Geometry) (spans : List Span) (es : List PageEntry) (rs : Chunk) (at : ℕ) (of : AreOf g spans es rs) where
   -- the front of a free run comes into use
   pub taken-of : (n pages : ℕ) (what : Use) → Begins at (Free n) rs → 0 < pages → pages ≤ n → Fits g (Used pages what)
       → AreOf g (taken_from at pages spans) (slice_set es at (Some (pages, what))) (taken_at at pages what rs)
@@ -58,7 +58,7 @@ module _ (g : Geometry) (spans : List Span) (es : List Entry) (rs : Chunk) (at :
             ∙ ap (λ (ss : List Span). taken_from at pages ss) of.free;
         entries =
             entries-taken rs at n pages what of.chunk.none_empty b some fits
-            ∙ ap (λ (xs : List Entry). slice_set xs at (Some (pages, what))) of.entries;
+            ∙ ap (λ (xs : List PageEntry). slice_set xs at (Some (pages, what))) of.entries;
         chunk = taken-chunk g rs at of.chunk n pages what b some fits good;
       }
 
@@ -72,7 +72,7 @@ module _ (g : Geometry) (spans : List Span) (es : List Entry) (rs : Chunk) (at :
             ∙ ap (λ (k : ℕ). given_back (k, n) (free_runs 0 rs)) (zero-add at)
             ∙ ap (λ (ss : List Span). given_back (at, n) ss) of.free;
         entries = entries-given rs at n what of.chunk.none_empty b (run-some rs at (Used n what) of.chunk.none_empty b)
-            ∙ ap (λ (xs : List Entry). slice_set xs at None) of.entries;
+            ∙ ap (λ (xs : List PageEntry). slice_set xs at None) of.entries;
         chunk = given-chunk g rs at of.chunk n what b;
       }
 
@@ -85,7 +85,7 @@ module _ (g : Geometry) (spans : List Span) (es : List Entry) (rs : Chunk) (at :
         free = free_runs-elements rs 0 at n class e f of.chunk.none_empty b ∙ of.free;
         entries =
             entries-elements rs at n class e f of.chunk.none_empty b
-            ∙ ap (λ (xs : List Entry). slice_set xs at (Some (n, Sub class f))) of.entries;
+            ∙ ap (λ (xs : List PageEntry). slice_set xs at (Some (n, Sub class f))) of.entries;
         chunk = elements-chunk g rs at of.chunk n class e f b good;
       }
 
@@ -131,7 +131,7 @@ sum-free (Free n ∷ rs) from =
 sum-free (Used n what ∷ rs) from = omega (arith, sum-free rs (from + n))
 
 -- the bytes of the free runs
-pub free-bytes : (g : Geometry) (spans : List Span) (es : List Entry) (rs : Chunk) (page : ℕ) → AreOf g spans es rs
+pub free-bytes : (g : Geometry) (spans : List Span) (es : List PageEntry) (rs : Chunk) (page : ℕ) → AreOf g spans es rs
     → page ≡ page_of g
     → sum (run_lengths spans) * page ≡ free_bytes g rs
 free-bytes g spans es rs page of is =

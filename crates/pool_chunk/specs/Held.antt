@@ -3,10 +3,10 @@ use Rattle.std.specs.Prelude.{◌≡◌, List, map}
 use Rattle.size_classes.specs.Sizes.{IsGeometry, page_of, chunk_bytes}
 use Rattle.pool_law.specs.Chunks.{Chunk}
 use Rattle.pool_chunk.specs.ChunkStates.{ChunkState}
-use Rattle.pool_chunk.specs.Slots.{Entry, entry_of, runs_from, AreOf, ArePlaced}
+use Rattle.pool_chunk.specs.Slots.{PageEntry, entry_of, runs_from, AreOf, ArePlaced}
 use Rattle.pool_chunk.specs.declared.chunk.Chunk.TheInside.{Inside}
 
-abbrev pub entries_in : Inside → List Entry
+abbrev pub entries_in : Inside → List PageEntry
 entries_in c = map entry_of c.slots.items
 
 abbrev pub runs_in : Inside → Chunk

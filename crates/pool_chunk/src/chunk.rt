@@ -10,7 +10,7 @@ ghost use Rattle.pool_chunk.specs.ChunkStates.{geometry_on, all_free, IsChunkGro
 ghost use Rattle.pool_chunk.specs.Outcomes.{TakesRun, TakesSubpage, TakesElement, run_back, element_back, freed_by};
 
 use crate::place::{place_pack, place_unpack};
-use crate::slot::{CutRun, Slot, clear, fill, no_runs, spend, take_cut};
+use crate::slot::{CutRun, PageUse, clear, fill, no_runs, spend, take_cut};
 use ground::Piece;
 use run_map::RunMap;
 use size_classes::SizeClasses;
@@ -35,7 +35,7 @@ pub struct Chunk {
     map: RunMap,
     classes: SizeClasses,
     bytes: u32,
-    slots: Vec<Slot>,
+    slots: Vec<PageUse>,
 }
 
 impl Model for Chunk {
@@ -104,7 +104,7 @@ impl Chunk {
         ensures { (subpage : HasSubpage self.now page) → result ≡ is_full subpage.elements }
     {
         let slot = &self.slots[page as usize];
-        let Slot::Cut(run) = slot else {
+        let PageUse::Cut(run) = slot else {
             unreachable!();
         };
         run.subpage.is_full()
@@ -139,7 +139,7 @@ impl Chunk {
         match self.map.take(pages) {
             None => None,
             Some((piece, page)) => {
-                fill(&mut self.slots, page as usize, Slot::Run(pages));
+                fill(&mut self.slots, page as usize, PageUse::Run(pages));
                 Some((piece, place_pack(page, pages, true, false, 0)))
             }
         }
@@ -167,7 +167,7 @@ impl Chunk {
                     pages,
                     subpage,
                 };
-                fill(&mut self.slots, page as usize, Slot::Cut(run));
+                fill(&mut self.slots, page as usize, PageUse::Cut(run));
                 Some(page)
             }
         }
@@ -184,7 +184,7 @@ impl Chunk {
         ensures some { IfSome result (λ x. TakesElement self.old self.new page x.0 x.1) }
     {
         let slot = &mut self.slots[page as usize];
-        let Slot::Cut(run) = slot else {
+        let PageUse::Cut(run) = slot else {
             unreachable!();
         };
         run.hand_out(page)
@@ -220,7 +220,7 @@ impl Chunk {
             → self.new ≡ element_back self.old page out.subpage index }
     {
         let slot = &mut self.slots[page as usize];
-        let Slot::Cut(run) = slot else {
+        let PageUse::Cut(run) = slot else {
             unreachable!();
         };
         run.take_back(piece, index)

@@ -3,7 +3,7 @@
 ghost use Rattle.std.specs.Prelude.{◌≡◌, ◌<◌, ◌≤◌, ◌^◌, ◌↔◌, ℕ, true, All, IsTrue, length, replicate, slice_set, slice_index_or, IfOk, IfSome, IfNone, IsNone, Some};
 ghost use Rattle.size_classes.specs.Elements.{is_out, is_full};
 ghost use Rattle.subpage_bits.specs.Elements.{IsElementOf, given};
-ghost use Rattle.pool_chunk.specs.declared.slot.Slot.{Slot};
+ghost use Rattle.pool_chunk.specs.declared.slot.PageUse.{PageUse};
 ghost use Rattle.pool_chunk.specs.declared.slot.CutRun.{CutRun};
 ghost use Rattle.pool_chunk.specs.Outcomes.{freed_by};
 ghost use Rattle.pool_chunk.specs.Slots.{with_subpage, HandsOutOf};
@@ -23,21 +23,21 @@ pub(crate) struct CutRun {
 }
 
 // The run in use that begins at a page, if one does: how many pages it has, or its elements.
-pub(crate) enum Slot {
+pub(crate) enum PageUse {
     Nothing,
     Run(u32),
     Cut(CutRun),
 }
 
-impl Slot {
+impl PageUse {
     // Whether nothing begins there.
     pub(crate) fn is_nothing(&self) -> bool
-        ensures { IsTrue result ↔ (self.now ≡ Slot.Nothing) }
+        ensures { IsTrue result ↔ (self.now ≡ PageUse.Nothing) }
     {
         match self {
-            Slot::Nothing => true,
-            Slot::Run(_) => false,
-            Slot::Cut(_) => false,
+            PageUse::Nothing => true,
+            PageUse::Run(_) => false,
+            PageUse::Cut(_) => false,
         }
     }
 }
@@ -73,12 +73,12 @@ impl CutRun {
 }
 
 // So many pages at which nothing begins.
-pub(crate) fn no_runs(alloc: Global, pages: usize) -> Result<Vec<Slot>, AllocError>
-    ensures { IfOk result (λ slots. slots.items ≡ replicate pages Slot.Nothing) }
+pub(crate) fn no_runs(alloc: Global, pages: usize) -> Result<Vec<PageUse>, AllocError>
+    ensures { IfOk result (λ slots. slots.items ≡ replicate pages PageUse.Nothing) }
 {
     let mut slots = Vec::with_capacity(alloc, pages)?;
     for _ in 0..pages {
-        match slots.push(Slot::Nothing) {
+        match slots.push(PageUse::Nothing) {
             Ok(()) => {}
             Err(_) => unreachable!(),
         }
@@ -87,11 +87,11 @@ pub(crate) fn no_runs(alloc: Global, pages: usize) -> Result<Vec<Slot>, AllocErr
 }
 
 // Gives the memory of the slots back, where nothing begins at any page.
-pub(crate) fn spend(mut slots: Vec<Slot>)
-    requires { All (λ slot. slot ≡ Slot.Nothing) slots.items }
+pub(crate) fn spend(mut slots: Vec<PageUse>)
+    requires { All (λ slot. slot ≡ PageUse.Nothing) slots.items }
 {
     while let Some(slot) = slots.pop() {
-        let Slot::Nothing = slot else {
+        let PageUse::Nothing = slot else {
             unreachable!();
         };
     }
@@ -99,38 +99,40 @@ pub(crate) fn spend(mut slots: Vec<Slot>)
 }
 
 // What begins from now on at a page where nothing did.
-pub(crate) fn fill(slots: &mut [Slot], page: usize, slot: Slot)
+pub(crate) fn fill(slots: &mut [PageUse], page: usize, slot: PageUse)
     requires within { page < length slots.old }
-    requires nothing { (d : Slot) → slice_index_or slots.old page d ≡ Slot.Nothing }
+    requires nothing { (d : PageUse) → slice_index_or slots.old page d ≡ PageUse.Nothing }
     ensures { slots.new ≡ slice_set slots.old page slot }
 {
     let was = replace(&mut slots[page], slot);
-    let Slot::Nothing = was else {
+    let PageUse::Nothing = was else {
         unreachable!();
     };
 }
 
 // Nothing begins from now on at a page where a run did.
-pub(crate) fn clear(slots: &mut [Slot], page: usize)
+pub(crate) fn clear(slots: &mut [PageUse], page: usize)
     requires within { page < length slots.old }
-    requires run { (pages : ℕ) × ((d : Slot) → slice_index_or slots.old page d ≡ Slot.Run pages) }
-    ensures { slots.new ≡ slice_set slots.old page Slot.Nothing }
+    requires run { (pages : ℕ)
+        × ((d : PageUse) → slice_index_or slots.old page d ≡ PageUse.Run pages) }
+    ensures { slots.new ≡ slice_set slots.old page PageUse.Nothing }
 {
-    let was = replace(&mut slots[page], Slot::Nothing);
-    let Slot::Run(_) = was else {
+    let was = replace(&mut slots[page], PageUse::Nothing);
+    let PageUse::Run(_) = was else {
         unreachable!();
     };
 }
 
 // The run of elements that began at a page, where nothing begins from now on.
-pub(crate) fn take_cut(slots: &mut [Slot], page: usize) -> CutRun
+pub(crate) fn take_cut(slots: &mut [PageUse], page: usize) -> CutRun
     requires within { page < length slots.old }
-    requires cut { (run : CutRun) × ((d : Slot) → slice_index_or slots.old page d ≡ Slot.Cut run) }
-    ensures run { (d : Slot) → slice_index_or slots.old page d ≡ Slot.Cut result }
-    ensures slots { slots.new ≡ slice_set slots.old page Slot.Nothing }
+    requires cut { (run : CutRun)
+        × ((d : PageUse) → slice_index_or slots.old page d ≡ PageUse.Cut run) }
+    ensures run { (d : PageUse) → slice_index_or slots.old page d ≡ PageUse.Cut result }
+    ensures slots { slots.new ≡ slice_set slots.old page PageUse.Nothing }
 {
-    let begun = replace(&mut slots[page], Slot::Nothing);
-    let Slot::Cut(run) = begun else {
+    let begun = replace(&mut slots[page], PageUse::Nothing);
+    let PageUse::Cut(run) = begun else {
         unreachable!();
     };
     run

@@ -4,7 +4,7 @@ ghost use Rattle.std.specs.Prelude.{◌≡◌};
 ghost use Rattle.size_classes.specs.Sizes.{of_order};
 ghost use Rattle.pool_law.specs.Chunks.{new_chunk};
 
-use crate::slot::Slot;
+use crate::slot::PageUse;
 use crate::{Chunk, Freed, place_pack, place_unpack};
 use ground::{Deed, Ground, Piece};
 use std::alloc::Global;
@@ -100,7 +100,7 @@ fn an_idle_subpage_gives_its_run_back(rt: HostRuntime) {
 // bit for each of 40 page classes: together at most a twentieth of a page of 8,192 bytes.
 #[test]
 fn tables_are_a_small_part_of_a_chunk(rt: HostRuntime) {
-    let slot = std::mem::size_of::<Slot>();
+    let slot = std::mem::size_of::<PageUse>();
     let memory = std::mem::size_of::<Option<Piece>>();
     assert!(rt; slot <= 409);
     assert!(rt; memory <= 409);

@@ -8,10 +8,10 @@ use Rattle.pool_law.specs.declared.note.Did.{Did}
 use Rattle.pool_law.specs.declared.note.Note.{Note}
 use Rattle.pool_law.specs.declared.run.Shape.{Shape}
 use Rattle.pool_law.specs.Same.{same_bytes}
-use Rattle.pool_law.specs.Logs.{Entry}
+use Rattle.pool_law.specs.Logs.{ToldNote}
 use Rattle.pool_law.specs.Counts.{count_of, root_is}
 use Rattle.pool_law.specs.Dids as say
-use Rattle.pool_law.specs.Readers.{Entries, Log, ◌>>◌, nothing, behind_entry, first_of_left, done_at, access}
+use Rattle.pool_law.specs.Readers.{ToldNotes, Log, ◌>>◌, nothing, behind_entry, first_of_left, done_at, access}
 use Rattle.pool_law.specs.Patterns.{release}
 use Rattle.pool_law.specs.Lanes.{copy_parts, release_part}
 use Rattle.pool_law.proofs.PatternLemmas.{same_number, done_at-is}
@@ -21,8 +21,8 @@ same_bytes-refl [] = refl
 same_bytes-refl (x ∷ xs) = rw (same_number x, same_bytes-refl xs) refl
 
 -- an access to a root that is present is read
-pub access-is : {A : Type 0} (root : RootId) (says : Did → Option A) (n : ℕ) (did : Did) (log : Log) (e : Entry)
-    (rest : Entries) →
+pub access-is : {A : Type 0} (root : RootId) (says : Did → Option A) (n : ℕ) (did : Did) (log : Log) (e : ToldNote)
+    (rest : ToldNotes) →
     log.left ≡ e ∷ rest → e.note ≡ Note.At (Object.Root root.place) n did → root_is root e.root ≡ true →
     access root says log ≡ option_map (λ a. (a, behind_entry log e rest)) (says did)
 access-is root says n did log e rest left is here =
@@ -35,7 +35,7 @@ access-is root says n did log e rest left is here =
 
 -- after the get and the set of a part, the others are copied behind it
 pub copy_parts-goes_on : (root : RootId) (at n m : ℕ) (bytes : List ℕ) (p : Part) (ps : List Part) (log : Log)
-    (e f : Entry) (rest : Entries) →
+    (e f : ToldNote) (rest : ToldNotes) →
     log.left ≡ e ∷ f ∷ rest →
     e.note ≡ Note.At (Object.Root p.root.place) n (Did.Get p.offset bytes) → root_is p.root e.root ≡ true
     → length bytes ≡ p.len →

@@ -6,7 +6,7 @@ use Rattle.pool_law.specs.declared.note.Did.TheVariants.{Fetch, Birth, Room, Ext
 use Rattle.pool_law.specs.declared.note.Note.{Note}
 use Rattle.pool_law.specs.declared.note.Note.TheVariants.{At}
 use Rattle.pool_law.specs.Same.{same_root}
-use Rattle.pool_law.specs.Logs.{Entry}
+use Rattle.pool_law.specs.Logs.{ToldNote}
 use Rattle.pool_law.specs.Counts.{root_is}
 
 -- how far a view reaches into the root, if it is one of the root
@@ -28,6 +28,6 @@ told_by root present (At object number (Fetch parcel)) = reach_of root parcel.vi
 told_by root present _ = 0
 
 -- what a lane knows of the root's capacity: the greatest that its notes told it
-abbrev pub known_of : RootId → List Entry → ℕ
+abbrev pub known_of : RootId → List ToldNote → ℕ
 known_of root [] = 0
 known_of root (e ∷ es) = max (told_by root e.root e.note) (known_of root es)

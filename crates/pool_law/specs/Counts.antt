@@ -9,7 +9,7 @@ use Rattle.pool_law.specs.declared.note.Note.{Note}
 use Rattle.pool_law.specs.declared.note.Note.TheVariants.{At, Ref, Busy}
 use Rattle.pool_law.specs.Same.{same_root}
 use Rattle.pool_law.specs.Kinds.{Passing, Stays, Goes, Comes, passing}
-use Rattle.pool_law.specs.Logs.{Entry}
+use Rattle.pool_law.specs.Logs.{ToldNote}
 
 -- a view, if there is one, is of the root
 abbrev pub view_is_of : RootId → Option ViewData → Bool
@@ -64,17 +64,17 @@ note_loses root (At object number did) = takes_away root (passing did)
 note_loses root (Busy held) = false
 
 -- the count after an entry
-abbrev pub count_step : RootId → ℕ → Entry → ℕ
+abbrev pub count_step : RootId → ℕ → ToldNote → ℕ
 count_step root k e =
     if note_gains root e.note then k + 1 else if note_loses root e.note then k - 1 else k
 
 -- a count after more entries of the lane
-abbrev pub count_from : RootId → ℕ → List Entry → ℕ
+abbrev pub count_from : RootId → ℕ → List ToldNote → ℕ
 count_from root k [] = k
 count_from root k (e ∷ es) = count_from root (count_step root k e) es
 
 -- a lane's count of a root, by its own log
-abbrev pub count_of : RootId → List Entry → ℕ
+abbrev pub count_of : RootId → List ToldNote → ℕ
 count_of root es = count_from root 0 es
 
 -- whether an entry may stand only where the lane counts the root
@@ -99,7 +99,7 @@ names_root root (At object number did) = brings root (passing did) || takes_away
 names_root root (Busy held) = false
 
 -- an entry that may stand only where the lane counts the root
-abbrev pub needs_count : RootId → Entry → Bool
+abbrev pub needs_count : RootId → ToldNote → Bool
 needs_count root e = note_needs root e.note || root_is root e.root
 
 -- a note ends the count of the root
@@ -108,7 +108,7 @@ ends_root root (Ref r Ended) = same_root r root
 ends_root root _ = false
 
 -- from this count on, the lane uses the root only while it counts it, and counts 0 after its end
-abbrev pub CountsHold : RootId → ℕ → List Entry → Type 0
+abbrev pub CountsHold : RootId → ℕ → List ToldNote → Type 0
 CountsHold root k [] = Unit {0}
 CountsHold root k (e ∷ es) =
     (needs_count root e ≡ true → 0 < k)
@@ -116,12 +116,12 @@ CountsHold root k (e ∷ es) =
     × CountsHold root (count_step root k e) es)
 
 -- how many entries of a log pass a test
-abbrev pub count_in : (Note → Bool) → List Entry → ℕ
+abbrev pub count_in : (Note → Bool) → List ToldNote → ℕ
 count_in test [] = 0
 count_in test (e ∷ es) = (if test e.note then 1 else 0) + count_in test es
 
 -- how many entries of all logs pass a test
-abbrev pub count_over : (Note → Bool) → List (List Entry) → ℕ
+abbrev pub count_over : (Note → Bool) → List (List ToldNote) → ℕ
 count_over test [] = 0
 count_over test (es ∷ logs) = count_in test es + count_over test logs
 
@@ -146,11 +146,11 @@ is_birth root (At object number (Birth r region)) = same_root r root
 is_birth root _ = false
 
 -- the total of a root: one for its birth, and all retains less all releases
-abbrev pub total_of : RootId → List (List Entry) → ℕ
+abbrev pub total_of : RootId → List (List ToldNote) → ℕ
 total_of root logs = (1 + count_over (is_retain root) logs) - count_over (is_release root) logs
 
 -- the sentences on the total of a root that was born
-pub record TotalHolds (root : RootId) (logs : List (List Entry)) : Type 0 where
+pub record TotalHolds (root : RootId) (logs : List (List ToldNote)) : Type 0 where
   pub never_below : count_over (is_release root) logs ≤ 1 + count_over (is_retain root) logs
   pub born_once : count_over (is_born root) logs ≡ 1
   pub ends_once : count_over (ends_root root) logs ≤ 1

@@ -5,7 +5,7 @@ use Rattle.pool_law.specs.declared.run.Shape.{Shape}
 use Rattle.pool_law.specs.declared.run.Reply.{Reply}
 use Rattle.pool_law.specs.declared.run.Answered.{Answered}
 use Rattle.pool_law.specs.Options.{◌>>=◌}
-use Rattle.pool_law.specs.Readers.{Entries, read_all}
+use Rattle.pool_law.specs.Readers.{ToldNotes, read_all}
 use Rattle.pool_law.specs.LaneStates.{LaneState, new_lane, log_at, state_at}
 use Rattle.pool_law.specs.Lanes.{turn, not_carried_out}
 use Rattle.pool_law.specs.Patterns.{closing}
@@ -16,14 +16,14 @@ sweep_period = 8192
 
 -- a command's reply and the lane's next state, where exactly these are its notes
 abbrev pub lane_step :
-    ℕ → Shape → ℕ → LaneState → Command → Entries → Option (Reply × LaneState)
+    ℕ → Shape → ℕ → LaneState → Command → ToldNotes → Option (Reply × LaneState)
 lane_step period shape lane s c es = do
   (a, log) ← read_all (turn period shape lane s c) (log_at s es)
   Some (a.reply, state_at a.names log)
 
 -- the replies to commands whose notes are these, and the state after them
 abbrev pub lane_run :
-    ℕ → Shape → ℕ → LaneState → List Command → List Entries → Option (List Reply × LaneState)
+    ℕ → Shape → ℕ → LaneState → List Command → List ToldNotes → Option (List Reply × LaneState)
 lane_run period shape lane s [] [] = Some ([], s)
 lane_run period shape lane s [] (es ∷ groups) = None
 lane_run period shape lane s (c ∷ cs) [] = None
@@ -41,7 +41,7 @@ before_stop (Reply.Stopped ∷ replies) = 0
 before_stop (reply ∷ replies) = suc (before_stop replies)
 
 -- the replies to commands of a stopped lane whose notes are these
-abbrev pub stopped_run : ℕ → List Command → List Entries → Option (List Reply)
+abbrev pub stopped_run : ℕ → List Command → List ToldNotes → Option (List Reply)
 stopped_run lane [] [] = Some []
 stopped_run lane [] (es ∷ groups) = None
 stopped_run lane (c ∷ cs) [] = None
@@ -71,12 +71,12 @@ abbrev pub replies_in : List Answered → List Reply
 replies_in replies = map (λ a. a.reply) replies
 
 -- whether these entries close the caches of a lane
-abbrev pub closes : ℕ → Entries → Option (Unit {0})
+abbrev pub closes : ℕ → ToldNotes → Option (Unit {0})
 closes lane es = option_map (λ got. tt) (read_all (closing lane) (log_at new_lane es))
 
 -- a lane's replies and notes are those of its commands, up to a stop and behind it, and its closing
 pub record IsLaneLog
-    (shape : Shape) (lane : ℕ) (commands : List Command) (replies : List Answered) (es : Entries) :
+    (shape : Shape) (lane : ℕ) (commands : List Command) (replies : List Answered) (es : ToldNotes) :
     Type 0
   where
     pub counted : sum (note_counts replies) ≤ length es

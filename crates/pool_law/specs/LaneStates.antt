@@ -3,14 +3,14 @@ use Rattle.std.specs.Prelude.{ℕ, Bool, nat_le, List, [], ◌∷◌, map, Optio
 use Rattle.pool_law.specs.declared.id.RootId.{RootId}
 use Rattle.pool_law.specs.declared.id.ViewData.{ViewData}
 use Rattle.pool_law.specs.Counts.{count_of}
-use Rattle.pool_law.specs.Readers.{Entries, Log}
+use Rattle.pool_law.specs.Readers.{ToldNotes, Log}
 use Rattle.pool_law.specs.Composites.{Composite, composite_of, extended_by, readable}
 use Rattle.pool_law.specs.Names.{Bound, Names, lookup, view_in, composite_in}
 
 -- what a lane knows between two commands
 pub record LaneState : Type 0 where
   pub names : Names
-  pub seen : Entries  -- all that it has noted, oldest first
+  pub seen : ToldNotes  -- all that it has noted, oldest first
   pub asked : ℕ  -- how many allocations asked a cache since the last sweep
 
 -- a lane at first
@@ -18,7 +18,7 @@ abbrev pub new_lane : LaneState
 new_lane = record { names = []; seen = []; asked = 0 }
 
 -- the lane's log, of which these entries are still to be read
-abbrev pub log_at : LaneState → Entries → Log
+abbrev pub log_at : LaneState → ToldNotes → Log
 log_at s es = record { seen = s.seen; asked = s.asked; left = es }
 
 -- the lane with these names, where its log was read up to here

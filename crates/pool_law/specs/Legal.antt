@@ -16,7 +16,7 @@ use Rattle.pool_law.specs.Same.{same_root}
 use Rattle.pool_law.specs.Limits.{IsShape, geometry_of}
 use Rattle.pool_law.specs.Arenas.{Arena, chunk_ends}
 use Rattle.pool_law.specs.Histories.{IsAccepted, arena_after}
-use Rattle.pool_law.specs.Logs.{Logs, Entry, dids, of_lane, IsHistory, has_history, history_of, note_stands, entries_of}
+use Rattle.pool_law.specs.Logs.{Logs, ToldNote, dids, of_lane, IsHistory, has_history, history_of, note_stands, entries_of}
 use Rattle.pool_law.specs.Mails.{MailsHold}
 use Rattle.pool_law.specs.Counts.{CountsHold, TotalHolds, LookHolds, count_over, count_in, count_step, names_root, is_retain, is_release, is_birth}
 use Rattle.pool_law.specs.LaneLaw.{IsLaneLog}
@@ -68,7 +68,7 @@ abbrev pub one_if : Bool → ℕ
 one_if test = if test then 1 else 0
 
 -- what a lane looks up of a root is in its bounds, after so many own retains and releases
-abbrev pub LooksHold : RootId → ℕ → ℕ → ℕ → ℕ → List Entry → Type 0
+abbrev pub LooksHold : RootId → ℕ → ℕ → ℕ → ℕ → List ToldNote → Type 0
 LooksHold root others retains releases count [] = Unit {0}
 LooksHold root others retains releases count (e ∷ es) =
     LookAt root retains releases count others e.note
@@ -79,7 +79,7 @@ LooksHold root others retains releases count (e ∷ es) =
     es
 
 -- the retains of a root in the logs other than this lane's
-abbrev pub others_retains : RootId → ℕ → ℕ → List (List Entry) → ℕ
+abbrev pub others_retains : RootId → ℕ → ℕ → List (List ToldNote) → ℕ
 others_retains root lane at [] = 0
 others_retains root lane at (es ∷ logs) =
     (if at == lane then 0 else count_in (is_retain root) es)
@@ -89,7 +89,7 @@ others_retains root lane at (es ∷ logs) =
 -- born, the totals of the roots that were born, and what was looked up. (That a birth and its Born
 -- stand in one log, and an end, its Ended and its Vacated in one, each once and in order, the
 -- patterns of a lane's log say.)
-pub record CountsAgree (logs : List (List Entry)) : Type 0 where
+pub record CountsAgree (logs : List (List ToldNote)) : Type 0 where
   pub lanes : (root : RootId) (lane : ℕ) → CountsHold root 0 (of_lane logs lane)
   pub born : (root : RootId) → 0 < count_over (names_root root) logs →
       0 < count_over (is_birth root) logs

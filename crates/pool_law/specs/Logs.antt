@@ -130,7 +130,7 @@ note_stands shape lane (Ref root did) = true
 note_stands shape lane (Busy held) = has_history held.object
 
 -- a note with what only its object's history tells: an access's root, and the region of an end
-pub record Entry : Type 0 where
+pub record ToldNote : Type 0 where
   pub note : Note
   pub root : Option RootId
   pub region : Option RegionId
@@ -177,12 +177,12 @@ abbrev pub region_for : Did → Option Present → Option RegionId
 region_for did p = region_beside (beside did) p
 
 -- a note as an entry
-abbrev pub entry_of : Logs → Note → Entry
+abbrev pub entry_of : Logs → Note → ToldNote
 entry_of logs (At (Root place) number did) =
     let p = present_before logs place number in
     record { note = At (Root place) number did; root = root_for did p; region = region_for did p }
 entry_of logs n = record { note = n; root = None; region = None }
 
 -- each lane's log with this
-abbrev pub entries_of : Logs → List (List Entry)
+abbrev pub entries_of : Logs → List (List ToldNote)
 entries_of logs = map (map (entry_of logs)) logs

@@ -8,7 +8,7 @@ use Rattle.pool_law.specs.declared.report.Watch.{Watch}
 use Rattle.pool_law.specs.declared.run.Shape.{Shape}
 use Rattle.pool_law.specs.Kinds.{Noter, Anyone, Owner, Taker, Sender, Receiver, noter_of, Beside, ItsRoot, ItsRegion, ItsRootAndRegion, ItsWatch, Nothing, beside}
 use Rattle.pool_law.specs.Histories.{IsAccepted, place_after}
-use Rattle.pool_law.specs.Logs.{Entry, may_stand, present_in, root_for, region_for}
+use Rattle.pool_law.specs.Logs.{ToldNote, may_stand, present_in, root_for, region_for}
 
 -- what was done, of notes that know their lane
 abbrev pub noted_dids : List Noted → List Did
@@ -59,6 +59,6 @@ pub record NotedMayFollow (shape : Shape) (object : Object) (h : List Noted) (n 
     pub stands : MayNote shape n.lane object n.did
 
 -- the entry of a lane's part that a note with this number makes
-abbrev pub entry_of_noted : Object → ℕ → Noted → Entry
+abbrev pub entry_of_noted : Object → ℕ → Noted → ToldNote
 entry_of_noted object number n =
     record { note = Note.At object number n.did; root = n.root; region = n.region }

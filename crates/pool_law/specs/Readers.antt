@@ -11,19 +11,19 @@ use Rattle.pool_law.specs.declared.note.Note.{Note}
 use Rattle.pool_law.specs.declared.note.Note.TheVariants.{At, Ref, Busy}
 use Rattle.pool_law.specs.Same.{same_object, same_root}
 use Rattle.pool_law.specs.Arenas.{or_else}
-use Rattle.pool_law.specs.Logs.{Entry}
+use Rattle.pool_law.specs.Logs.{ToldNote}
 use Rattle.pool_law.specs.Counts.{count_of, root_is}
 use Rattle.pool_law.specs.Dids as say
 
 -- the entries of a log, or of a part of it
-abbrev pub Entries : Type 0
-Entries = List Entry
+abbrev pub ToldNotes : Type 0
+ToldNotes = List ToldNote
 
 -- a log as it is read
 pub record Log : Type 0 where
-  pub seen : Entries  -- oldest first
+  pub seen : ToldNotes  -- oldest first
   pub asked : ℕ  -- how many allocations asked a cache since the last sweep
-  pub left : Entries
+  pub left : ToldNotes
 
 -- what is read, and the log behind it; none where the notes are others
 abbrev pub Reader : Type 0 → Type 0
@@ -70,17 +70,17 @@ abbrev pub not_found : {A B : Type 0} → Reader A → Reader (Option B)
 not_found r = r >> give None
 
 -- the log behind an entry
-abbrev pub behind_entry : Log → Entry → Entries → Log
+abbrev pub behind_entry : Log → ToldNote → ToldNotes → Log
 behind_entry log e rest = record { seen = log.seen ++ e ∷ []; asked = log.asked; left = rest }
 
 -- what is made of the first of these entries, and the log behind it
 abbrev pub first_of_left :
-    {A : Type 0} → (Entry → Option A) → Log → Entries → Option (A × Log)
+    {A : Type 0} → (ToldNote → Option A) → Log → ToldNotes → Option (A × Log)
 first_of_left read log [] = None
 first_of_left read log (e ∷ rest) = option_map (λ a. (a, behind_entry log e rest)) (read e)
 
 -- what is made of the next entry
-abbrev pub next : {A : Type 0} → (Entry → Option A) → Reader A
+abbrev pub next : {A : Type 0} → (ToldNote → Option A) → Reader A
 next read = λ log. first_of_left read log log.left
 
 -- what was done, where the note is at this object
@@ -151,7 +151,7 @@ abbrev pub asks_anew : Reader (Unit {0})
 asks_anew = λ log. Some (tt, record log { asked = 0 })
 
 -- a log of which this is left has ended
-abbrev pub ended_with : Log → Entries → Option (Unit {0} × Log)
+abbrev pub ended_with : Log → ToldNotes → Option (Unit {0} × Log)
 ended_with log [] = Some (tt, log)
 ended_with log (e ∷ es) = None
 

@@ -1,19 +1,19 @@
 #![tactic(auto)]
 //! The pool's plain data, and the definitions that every other crate cites.
 
-pub mod command;
-pub mod id;
-pub mod list;
-pub mod named;
-pub mod note;
-pub mod report;
-pub mod run;
+mod command;
+mod id;
+mod list;
+mod named;
+mod note;
+mod report;
+mod run;
 
 pub use command::{Command, Trace};
 pub use id::{Parcel, Part, Place, Region, RegionId, RootId, ViewData};
 pub use list::{
-    Bytes, ChunkEnds, CommandList, CommandLists, LaneLogs, LeakList, NameList, NoteList, Records,
-    ReplyList,
+    Bytes, ChunkEnds, CommandList, CommandLists, Items, LaneLogs, LeakList, NameList, NoteList,
+    Records, ReplyList,
 };
 pub use named::Named;
 pub use note::{CacheNo, Did, Held, Note, Noted, Object, RefDid};

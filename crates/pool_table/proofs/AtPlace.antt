@@ -4,8 +4,8 @@ use Rattle.std.specs.Prelude.{Some}
 use Rattle.pool_law.specs.declared.id.RootId.{RootId}
 use Rattle.pool_law.specs.declared.note.Did.{Did}
 use Rattle.pool_law.specs.declared.note.Noted.{Noted}
-use Rattle.table_law.specs.Histories.{root_after}
-use Rattle.table_law.specs.NoteCounts.{did_home, did_birth, did_end, did_post}
+use Rattle.history_laws.specs.Histories.{root_after}
+use Rattle.history_laws.specs.NoteCounts.{did_home, did_birth, did_end, did_post}
 use Rattle.pool_table.specs.declared.views.SeatView.{SeatView}
 use Rattle.pool_table.specs.Counts.{weigh, gained, lost, on_root, ref_ended, ref_vacated}
 use Rattle.pool_table.specs.Hands.{at_end, InHand, NoneWaits}

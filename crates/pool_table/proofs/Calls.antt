@@ -17,9 +17,9 @@ use Rattle.pool_table.proofs.Claimed.{stays_sound}
 use Rattle.pool_table.proofs.Sending.{sends_allowed, receives_allowed}
 use Rattle.atomic_table.specs.Table.{keeps}
 use Rattle.pool_table.specs.Slots.{slots_of, slot_of}
-use Rattle.table_law.specs.Histories.{IsHistory}
+use Rattle.history_laws.specs.Histories.{IsHistory}
 use Rattle.pool_law.specs.Naming.{noted_by}
-use Rattle.table_law.specs.Measures.{measures_of}
+use Rattle.history_laws.specs.Measures.{measures_of}
 use Rattle.pool_table.specs.declared.views.Layout.{Layout}
 use Rattle.pool_table.specs.declared.views.SeatView.{SeatView}
 use Rattle.pool_table.specs.Words.{words_of, word_of, count_word_of}
@@ -31,7 +31,7 @@ use Rattle.pool_table.specs.Counts.{HasCount, HasToken}
 use Rattle.pool_table.proofs.Presence.{next_birth}
 use Rattle.pool_law.specs.NotedHistories.{MayNote}
 use Rattle.pool_table.specs.Sound.{IsSound, IsMarked, WasHeld}
-use Rattle.pool_table.specs.declared.table.Slot.{Slot}
+use Rattle.pool_table.specs.declared.table.HomeSlot.{HomeSlot}
 use Rattle.pool_table.specs.Sections.{IsInside, StandsFor}
 use Rattle.pool_table.specs.Steps.{IsFree}
 use Rattle.std.specs.Prelude.{Bool, true, false, MatchBool}
@@ -98,7 +98,8 @@ module _ {H : Type 0} (stands : List ℕ → Setting → List Noted → H → Ty
       (marks_allowed stands l some_handle id me o fits out turn may marked)
 
   -- the seat as it is once the home value is back in the slot
-  pub dones_as : (l key : Layout) (o : Object) (slots : ℕ) (slot : Slot) (id id' : ℕ) (me me' : Me (Option H) SeatView)
+  pub dones_as : (l key : Layout) (o : Object) (slots : ℕ) (slot : HomeSlot) (id id' : ℕ) (me me' : Me (Option H)
+    SeatView)
       (h : List Noted) (home : H) (note : Noted) → key ≡ l → slots ≡ slots_of l.shape → IsInside l.shape me o slot h
       → id' ≡ id → me' ≡ (me.0, (slot.home, Some home) ∷ [])
       → 0 < me.0.turns → MayNote l.shape me.0.own.number o note.did → PutsDown me.0 note.did
@@ -115,7 +116,8 @@ module _ {H : Type 0} (stands : List ℕ → Setting → List Noted → H → Ty
       (dones_allowed stands l id (me.0, (slot.home, Some home) ∷ []) o slot.home h home note inside.object
       inside.slot_is inside.inside refl turn may hands accepted stands_for))
 
-  pub idles_as : (l key : Layout) (o : Object) (slots : ℕ) (slot : Slot) (id id' : ℕ) (me me' : Me (Option H) SeatView)
+  pub idles_as : (l key : Layout) (o : Object) (slots : ℕ) (slot : HomeSlot) (id id' : ℕ) (me me' : Me (Option H)
+    SeatView)
       (h : List Noted) (home : H) → key ≡ l → slots ≡ slots_of l.shape → IsInside l.shape me o slot h → id' ≡ id
       → me' ≡ (me.0, (slot.home, Some home) ∷ [])
       → MayLeave me.0 o → StandsFor stands (measures_of l.shape o) me.0 h home

@@ -18,9 +18,9 @@ use Rattle.pool_law.specs.declared.note.Object.TheVariants.{Root}
 use Rattle.pool_law.specs.Homes.{home_of, IsObjectOf}
 use Rattle.pool_table.proofs.Mails.{mailed_same}
 use Rattle.pool_table.specs.Slots.{slots_of, slot_of}
-use Rattle.table_law.specs.Measures.{measures_of}
+use Rattle.history_laws.specs.Measures.{measures_of}
 use Rattle.pool_table.specs.Words.{word_of}
-use Rattle.table_law.proofs.Apart.{one_home}
+use Rattle.history_laws.proofs.Apart.{one_home}
 use Rattle.pool_table.specs.declared.views.Layout.{Layout}
 use Rattle.pool_table.specs.declared.views.Inside.{Inside}
 use Rattle.pool_table.specs.declared.views.SeatView.{SeatView}

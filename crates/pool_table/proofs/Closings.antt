@@ -11,8 +11,8 @@ use Rattle.atomic_table.proofs.Lists.{at_map}
 use Rattle.step_law.proofs.Changes.{each_at, sum_at, sum_two, sum_only, at_mapped}
 use Rattle.pool_law.specs.declared.note.Noted.{Noted}
 use Rattle.pool_law.specs.Homes.{home_of, objects_of}
-use Rattle.table_law.specs.Measures.{measures_of}
-use Rattle.table_law.proofs.Apart.{home_within}
+use Rattle.history_laws.specs.Measures.{measures_of}
+use Rattle.history_laws.proofs.Apart.{home_within}
 use Rattle.pool_table.specs.Words.{listed_of, word_at, word_of, count_word_of}
 use Rattle.pool_table.specs.Slots.{slot_at, slot_of, IsEmptyBetween}
 use Rattle.pool_table.proofs.Words.{object_listed, count_listed}
@@ -34,7 +34,7 @@ use Rattle.pool_table.proofs.Births.{born_regroups}
 use Rattle.pool_table.proofs.Exact.{one_born}
 use Rattle.pool_table.specs.Births.{IsBorn}
 use Rattle.pool_table.specs.Hands.{at_birth_as, from_arena, to_arena, from_cache, to_cache, from_place, to_place, grasped, laid, uses_come, uses_gone}
-use Rattle.table_law.specs.NoteCounts.{is_taking, uses_in}
+use Rattle.history_laws.specs.NoteCounts.{is_taking, uses_in}
 use Rattle.pool_law.specs.declared.id.RegionId.{RegionId}
 use Rattle.pool_table.proofs.Ledgers.{sum_add}
 use Rattle.pool_table.proofs.Regions.{in_one_hold}

@@ -26,7 +26,7 @@ use Rattle.pool_table.specs.Looks.{IsLookRight, retains_in}
 use Rattle.pool_table.specs.Sequence.{Leave}
 use Rattle.pool_table.proofs.Fitting.{left_here, vacated_fits}
 use Rattle.pool_table.proofs.Exact.{count_at, count_born, token_at, token_born, ended_at, none_ended}
-use Rattle.table_law.proofs.Names.{same_root-refl}
+use Rattle.history_laws.proofs.Names.{same_root-refl}
 use Rattle.pool_table.specs.Sound.{IsSound, IsView}
 use Rattle.pool_table.specs.Steps.{retains, looks, releases, vacates}
 use Rattle.pool_table.proofs.AtPlace.{TokenAt}

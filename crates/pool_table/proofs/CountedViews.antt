@@ -13,7 +13,7 @@ use Rattle.pool_table.specs.declared.views.Layout.{Layout}
 use Rattle.pool_table.specs.declared.views.SeatView.{SeatView}
 use Rattle.pool_table.specs.Counts.{on_root, ref_gain, ref_loss, ref_ended, ref_vacated, ref_born, on_place, weigh, at_gain, at_loss, gained, lost, with_ref, on_exact}
 use Rattle.pool_table.specs.Hands.{at_in, at_out, taken, put_down, InHand, at_birth, at_end, IsOrderly, IsBearing, at_birth_of, at_birth_as}
-use Rattle.table_law.specs.NoteCounts.{is_root}
+use Rattle.history_laws.specs.NoteCounts.{is_root}
 use Rattle.pool_table.specs.Steps.{vacates}
 use Rattle.pool_table.proofs.AtPlace.{CountsAt, EndedAt, TokenAt}
 use Rattle.pool_table.proofs.Counts.{weigh_ref, elsewhere, other_place, place_elsewhere}

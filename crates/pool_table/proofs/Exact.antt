@@ -15,10 +15,10 @@ use Rattle.pool_law.specs.declared.note.Did.{Did}
 use Rattle.pool_law.specs.declared.note.Noted.{Noted}
 use Rattle.pool_law.specs.declared.note.Object.TheVariants.{Root}
 use Rattle.pool_law.specs.Homes.{home_of}
-use Rattle.table_law.specs.Histories.{root_after}
-use Rattle.table_law.specs.NoteCounts.{did_birth, did_birth_of, did_birth_as, did_end}
-use Rattle.table_law.proofs.Roots.{place_born, place_present, of_birth}
-use Rattle.table_law.proofs.Told.{place_there, root_is}
+use Rattle.history_laws.specs.Histories.{root_after}
+use Rattle.history_laws.specs.NoteCounts.{did_birth, did_birth_of, did_birth_as, did_end}
+use Rattle.history_laws.proofs.Roots.{place_born, place_present, of_birth}
+use Rattle.history_laws.proofs.Told.{place_there, root_is}
 use Rattle.pool_table.specs.declared.views.Entry.{Entry}
 use Rattle.pool_table.specs.declared.views.Layout.{Layout}
 use Rattle.pool_table.specs.declared.views.Part.{Part}

@@ -16,12 +16,12 @@ use Rattle.pool_law.specs.Histories.{place_after}
 use Rattle.pool_law.specs.NotedHistories.{noted_dids, IsRightAt}
 use Rattle.pool_law.specs.Logs.{present_in, root_for}
 use Rattle.pool_law.specs.Counts.{root_is}
-use Rattle.table_law.specs.Histories.{IsHistory, IsPlaceAfter}
-use Rattle.table_law.proofs.BinSteps.{so}
-use Rattle.table_law.proofs.Names.{and-first, and-second}
-use Rattle.table_law.proofs.Runs.{Runs, told, next_note}
-use Rattle.table_law.proofs.PlaceSteps.{FitsPlace}
-use Rattle.table_law.proofs.Told.{place_fits}
+use Rattle.history_laws.specs.Histories.{IsHistory, IsPlaceAfter}
+use Rattle.history_laws.proofs.BinSteps.{so}
+use Rattle.history_laws.proofs.Names.{and-first, and-second}
+use Rattle.history_laws.proofs.Runs.{Runs, told, next_note}
+use Rattle.history_laws.proofs.PlaceSteps.{FitsPlace}
+use Rattle.history_laws.proofs.Told.{place_fits}
 use Rattle.pool_table.specs.Capacities.{gives}
 
 -- bytes that are laid over others are as many in all, and zeros go up to a size that is no smaller

@@ -15,12 +15,12 @@ use Rattle.pool_law.specs.Same.{same_root}
 use Rattle.pool_law.specs.Roots.{RootPlace, Present, new_place}
 use Rattle.pool_law.specs.Logs.{root_for}
 use Rattle.pool_law.specs.Counts.{root_is}
-use Rattle.table_law.specs.Histories.{IsHistory, IsPlaceAfter}
-use Rattle.table_law.specs.NoteCounts.{one_if_so}
-use Rattle.table_law.proofs.Names.{and-first, and-second, same_root-is, same_root-refl}
-use Rattle.table_law.proofs.Runs.{Runs}
-use Rattle.table_law.proofs.PlaceSteps.{FitsPlace}
-use Rattle.table_law.proofs.Told.{place_fits}
+use Rattle.history_laws.specs.Histories.{IsHistory, IsPlaceAfter}
+use Rattle.history_laws.specs.NoteCounts.{one_if_so}
+use Rattle.history_laws.proofs.Names.{and-first, and-second, same_root-is, same_root-refl}
+use Rattle.history_laws.proofs.Runs.{Runs}
+use Rattle.history_laws.proofs.PlaceSteps.{FitsPlace}
+use Rattle.history_laws.proofs.Told.{place_fits}
 use Rattle.pool_table.specs.Capacities.{gives}
 use Rattle.pool_table.proofs.GiftSteps.{GivesNone, GivesSome, Stepped, Born, Stayed, Ended, one_present, Step, run}
 

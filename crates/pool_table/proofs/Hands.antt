@@ -20,8 +20,8 @@ use Rattle.pool_law.specs.declared.note.RefDid.TheVariants.{Born}
 use Rattle.pool_law.specs.Homes.{home_of}
 use Rattle.pool_table.specs.Slots.{slots_of}
 use Rattle.pool_table.specs.Words.{count_word_of}
-use Rattle.table_law.specs.NoteCounts.{place_lane, did_handle, did_home}
-use Rattle.table_law.proofs.Bins.{stock}
+use Rattle.history_laws.specs.NoteCounts.{place_lane, did_handle, did_home}
+use Rattle.history_laws.proofs.Bins.{stock}
 use Rattle.pool_table.specs.declared.views.Entry.{Entry}
 use Rattle.pool_table.specs.declared.views.Entry.TheVariants.{At, Ref, Busy}
 use Rattle.pool_table.specs.declared.views.Layout.{Layout}

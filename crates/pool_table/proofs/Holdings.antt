@@ -8,9 +8,9 @@ use Rattle.pool_law.specs.declared.note.Did.TheVariants.{Take, Give, Hit, Kept, 
 use Rattle.pool_law.specs.declared.note.Noted.{Noted}
 use Rattle.pool_law.specs.declared.note.Object.{Object}
 use Rattle.pool_law.specs.Same.{same_taking}
-use Rattle.table_law.specs.NoteCounts.{is_taking, uses_in, weight_or}
-use Rattle.table_law.proofs.Names.{same_taking-key}
-use Rattle.table_law.proofs.ArenaTakings.{of_taking, uses_light}
+use Rattle.history_laws.specs.NoteCounts.{is_taking, uses_in, weight_or}
+use Rattle.history_laws.proofs.Names.{same_taking-key}
+use Rattle.history_laws.proofs.ArenaTakings.{of_taking, uses_light}
 use Rattle.pool_table.specs.declared.views.Entry.{Entry}
 use Rattle.pool_table.specs.declared.views.Entry.TheVariants.{At}
 use Rattle.pool_table.specs.declared.views.SeatView.{SeatView}

@@ -5,7 +5,7 @@ use Rattle.pool_law.specs.declared.note.Noted.{Noted}
 use Rattle.pool_law.specs.declared.note.Object.{Object}
 use Rattle.pool_law.specs.declared.note.Object.TheVariants.{Arena, Cache, Bin, Mail, Root}
 use Rattle.pool_law.specs.Homes.{home_of, objects_of, IsObjectOf}
-use Rattle.table_law.proofs.Apart.{home_within, one_home}
+use Rattle.history_laws.proofs.Apart.{home_within, one_home}
 use Rattle.pool_law.specs.Kinds.{Passing, Beside, ItsRoot, ItsRegion, ItsRootAndRegion, ItsWatch, Nothing, beside}
 use Rattle.std.specs.Prelude.{Option, Some, None}
 use Rattle.pool_law.specs.declared.id.RootId.{RootId}
@@ -13,9 +13,9 @@ use Rattle.pool_law.specs.Roots.{Present, RootPlace}
 use Rattle.pool_law.specs.Histories.{place_after}
 use Rattle.pool_law.specs.NotedHistories.{noted_dids}
 use Rattle.pool_law.specs.Logs.{present_in, root_beside, root_for}
-use Rattle.table_law.specs.Histories.{IsHistory}
-use Rattle.table_law.proofs.Runs.{right_last}
-use Rattle.table_law.proofs.Told.{place_fits}
+use Rattle.history_laws.specs.Histories.{IsHistory}
+use Rattle.history_laws.proofs.Runs.{right_last}
+use Rattle.history_laws.proofs.Told.{place_fits}
 use Rattle.pool_table.specs.Letters.{letter_in, letter_out}
 use Rattle.pool_table.specs.Sound.{IsKnown, IsPlain}
 

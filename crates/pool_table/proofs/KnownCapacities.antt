@@ -11,7 +11,7 @@ use Rattle.pool_law.specs.declared.note.Object.TheVariants.{Root}
 use Rattle.pool_law.specs.Capacities.{reach_of, known_of}
 use Rattle.pool_law.specs.Homes.{IsObjectOf}
 use Rattle.pool_law.specs.Roots.{Present, RootPlace}
-use Rattle.table_law.specs.Histories.{IsPlaceAfter}
+use Rattle.history_laws.specs.Histories.{IsPlaceAfter}
 use Rattle.pool_table.specs.declared.views.Layout.{Layout}
 use Rattle.pool_table.specs.declared.views.Letter.{Letter}
 use Rattle.pool_table.specs.declared.views.Part.{Part}

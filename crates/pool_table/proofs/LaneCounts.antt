@@ -10,7 +10,7 @@ use Rattle.pool_law.specs.declared.note.RefDid.{RefDid}
 use Rattle.pool_law.specs.declared.note.RefDid.TheVariants.{Born, Retain, Kept, Ended, Vacated, Look}
 use Rattle.pool_law.specs.Same.{same_root}
 use Rattle.pool_law.specs.Counts.{view_is_of, root_is, ref_gains, ref_loses, ref_needs, count_step, count_from, count_of, needs_count, CountsHold}
-use Rattle.table_law.specs.NoteCounts.{view_of_root}
+use Rattle.history_laws.specs.NoteCounts.{view_of_root}
 use Rattle.pool_table.specs.declared.views.Entry.{Entry}
 use Rattle.pool_table.specs.declared.views.Entry.TheVariants.{At, Ref, Busy}
 use Rattle.pool_table.specs.declared.views.Part.{Part}

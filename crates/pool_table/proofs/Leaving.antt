@@ -14,7 +14,7 @@ use Rattle.pool_law.specs.Homes.{home_of, IsObjectOf}
 use Rattle.pool_table.proofs.Mails.{mailed_same}
 use Rattle.pool_table.specs.Slots.{slots_of, slot_of}
 use Rattle.pool_table.proofs.Slots.{slot_within}
-use Rattle.table_law.specs.Measures.{measures_of}
+use Rattle.history_laws.specs.Measures.{measures_of}
 use Rattle.pool_table.specs.Words.{word_of}
 use Rattle.pool_table.specs.declared.views.Layout.{Layout}
 use Rattle.pool_table.specs.declared.views.Inside.{Inside}

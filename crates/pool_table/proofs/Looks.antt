@@ -9,7 +9,7 @@ use Rattle.step_law.proofs.Changes.{each_at, sum_set, sum_same, sum_at}
 use Rattle.pool_law.specs.declared.id.RootId.{RootId}
 use Rattle.pool_law.specs.declared.note.RefDid.{RefDid}
 use Rattle.pool_law.specs.declared.note.RefDid.TheVariants.{Born, Retain, Kept, Ended, Vacated, Look}
-use Rattle.table_law.specs.NoteCounts.{is_root}
+use Rattle.history_laws.specs.NoteCounts.{is_root}
 use Rattle.pool_table.specs.declared.views.Entry.{Entry}
 use Rattle.pool_table.specs.declared.views.Entry.TheVariants.{At, Ref, Busy}
 use Rattle.pool_table.specs.declared.views.Part.{Part}

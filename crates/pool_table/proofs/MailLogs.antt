@@ -16,7 +16,7 @@ use Rattle.pool_law.specs.declared.note.Object.TheVariants.{Mail}
 use Rattle.pool_law.specs.Kinds.{Passing, Stays, Goes, Comes, passing}
 use Rattle.pool_law.specs.Mails.{posted, fetched, gone, come, MailHolds}
 use Rattle.pool_law.specs.Same.{same_object}
-use Rattle.table_law.proofs.Names.{and-first, and-second}
+use Rattle.history_laws.proofs.Names.{and-first, and-second}
 use Rattle.pool_table.specs.declared.views.Entry.{Entry}
 use Rattle.pool_table.specs.declared.views.Entry.TheVariants.{At, Ref, Busy}
 use Rattle.pool_table.specs.declared.views.Layout.{Layout}

@@ -17,7 +17,7 @@ use Rattle.pool_law.specs.Homes.{home_of, IsObjectOf}
 use Rattle.pool_table.proofs.Mails.{mailed_entry}
 use Rattle.pool_table.specs.Slots.{slots_of, slot_of}
 use Rattle.pool_table.specs.Words.{word_of}
-use Rattle.table_law.specs.Histories.{root_after}
+use Rattle.history_laws.specs.Histories.{root_after}
 use Rattle.pool_table.specs.declared.views.Entry.{Entry}
 use Rattle.pool_table.specs.declared.views.Entry.TheVariants.{Busy}
 use Rattle.pool_table.specs.declared.views.Layout.{Layout}

@@ -18,9 +18,9 @@ use Rattle.pool_table.proofs.Known.{known, none_in, none_out, plain_at}
 use Rattle.pool_law.specs.Kinds.{passing}
 use Rattle.pool_table.specs.Slots.{slots_of, slot_of}
 use Rattle.pool_table.proofs.Slots.{slot_within}
-use Rattle.table_law.specs.Measures.{measures_of}
+use Rattle.history_laws.specs.Measures.{measures_of}
 use Rattle.pool_table.specs.Words.{word_of}
-use Rattle.table_law.specs.Histories.{IsHistory}
+use Rattle.history_laws.specs.Histories.{IsHistory}
 use Rattle.pool_law.specs.Naming.{noted_by}
 use Rattle.pool_table.specs.declared.views.Entry.{Entry}
 use Rattle.pool_table.specs.declared.views.Entry.TheVariants.{At}
@@ -33,9 +33,9 @@ use Rattle.pool_law.specs.declared.id.Parcel.{Parcel}
 use Rattle.pool_law.specs.declared.id.ViewData.{ViewData}
 use Rattle.std.specs.Prelude.{◌&&◌}
 use Rattle.pool_law.specs.declared.note.Did.TheVariants.{Home, Post, Birth, End}
-use Rattle.table_law.specs.NoteCounts.{did_home, did_post, parcel_weight, did_birth, did_end}
-use Rattle.table_law.specs.Standing.{IsRooted}
-use Rattle.table_law.proofs.InPlace.{in_place}
+use Rattle.history_laws.specs.NoteCounts.{did_home, did_post, parcel_weight, did_birth, did_end}
+use Rattle.history_laws.specs.Standing.{IsRooted}
+use Rattle.history_laws.proofs.InPlace.{in_place}
 use Rattle.pool_table.proofs.Presence.{birth_alone, end_first}
 use Rattle.pool_table.specs.Counts.{weigh, on_root, ref_ended}
 use Rattle.pool_table.specs.Hands.{PutsDown}

@@ -13,8 +13,8 @@ use Rattle.pool_law.specs.declared.run.Shape.{Shape}
 use Rattle.pool_law.specs.declared.note.Held.{Held}
 use Rattle.pool_law.specs.declared.note.Noted.{Noted}
 use Rattle.pool_law.specs.declared.note.Object.{Object}
-use Rattle.table_law.specs.Histories.{IsHistory}
-use Rattle.table_law.specs.Measures.{measures_of}
+use Rattle.history_laws.specs.Histories.{IsHistory}
+use Rattle.history_laws.specs.Measures.{measures_of}
 use Rattle.pool_table.specs.declared.views.Entry.{Entry}
 use Rattle.pool_table.specs.declared.views.Entry.TheVariants.{At, Busy}
 use Rattle.pool_table.specs.declared.views.Part.{Part}

@@ -14,11 +14,11 @@ use Rattle.step_law.proofs.Changes.{sum_none}
 use Rattle.pool_law.specs.declared.note.Noted.{Noted}
 use Rattle.pool_law.specs.declared.note.Object.{Object}
 use Rattle.pool_law.specs.Homes.{home_of, objects_of, IsObjectOf}
-use Rattle.table_law.specs.Measures.{measures_of}
+use Rattle.history_laws.specs.Measures.{measures_of}
 use Rattle.pool_table.specs.Words.{word_of, IsOpening}
 use Rattle.pool_table.specs.Slots.{slots_of, slot_of, IsEmptyBetween}
-use Rattle.table_law.proofs.Bins.{no_history}
-use Rattle.table_law.proofs.Apart.{home_within}
+use Rattle.history_laws.proofs.Bins.{no_history}
+use Rattle.history_laws.proofs.Apart.{home_within}
 use Rattle.pool_table.specs.declared.views.Entry.{Entry}
 use Rattle.pool_table.specs.declared.views.Layout.{Layout}
 use Rattle.pool_table.specs.declared.views.Part.{Part}
@@ -32,7 +32,7 @@ use Rattle.pool_table.proofs.Order.{order_opens}
 use Rattle.pool_table.proofs.Sequence.{one_opens}
 use Rattle.pool_table.proofs.Births.{born_opens}
 use Rattle.pool_table.proofs.Tidings.{known_opens}
-use Rattle.pool_table.specs.Sound.{IsKept, IsSound, IsView, IsTold, IsIdle, IsShape, Stands, Knows, OnceBelow}
+use Rattle.pool_table.specs.Sound.{IsKept, IsSound, IsView, IsTold, IsIdle, IsTableShape, Stands, Knows, OnceBelow}
 use Rattle.pool_table.specs.Steps.{lane_parts, first_view, rest_view, lane_view, first_lane, rest_of_lanes}
 use Rattle.pool_table.proofs.Mails.{lying, mailed_opens}
 use Rattle.pool_table.proofs.Seatings.{cut_in_two}
@@ -130,7 +130,7 @@ module _ {H : Type 0} (stands : List ℕ → Setting → List Noted → H → Ty
       (All-nil (Stands l.shape p.number))) ps all
 
   -- the table as it is made
-  pub opens : (gs : Setting) (words : List ℕ) (homes : List (Option H)) → IsShape l.shape
+  pub opens : (gs : Setting) (words : List ℕ) (homes : List (Option H)) → IsTableShape l.shape
       → l.shape.lanes * l.turns < 4611686018427387904 → l.shape.lanes * l.moves < 1073741824 → IsOpening l.shape words
       → length homes ≡ slots_of l.shape → IsEmptyBetween l.shape homes
       → ((o : Object) → IsObjectOf l.shape o → (x : H) × (get_elem? homes (slot_of l.shape o) ≡ some (Some x))

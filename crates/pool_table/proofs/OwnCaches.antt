@@ -6,10 +6,10 @@ use Rattle.pool_law.specs.declared.id.RegionId.{RegionId}
 use Rattle.pool_law.specs.declared.note.Did.{Did}
 use Rattle.pool_law.specs.declared.note.Did.TheVariants.{Take, Give}
 use Rattle.pool_law.specs.Same.{same_taking}
-use Rattle.table_law.specs.NoteCounts.{is_taking, uses_in}
-use Rattle.table_law.proofs.Names.{same_taking-both, same_taking-refl}
-use Rattle.table_law.proofs.ArenaTakings.{of_taking}
-use Rattle.table_law.proofs.Regions.{OfCache}
+use Rattle.history_laws.specs.NoteCounts.{is_taking, uses_in}
+use Rattle.history_laws.proofs.Names.{same_taking-both, same_taking-refl}
+use Rattle.history_laws.proofs.ArenaTakings.{of_taking}
+use Rattle.history_laws.proofs.Regions.{OfCache}
 use Rattle.pool_table.specs.declared.views.Entry.{Entry}
 use Rattle.pool_table.specs.declared.views.Entry.TheVariants.{At, Ref, Busy}
 

@@ -21,12 +21,12 @@ use Rattle.pool_law.specs.Homes.{IsObjectOf}
 use Rattle.pool_law.specs.Same.{same_taking}
 use Rattle.pool_law.specs.Caches.{Cache as CacheState}
 use Rattle.pool_law.specs.NotedHistories.{MayNote}
-use Rattle.table_law.specs.Histories.{IsCacheAfter}
-use Rattle.table_law.specs.Standing.{IsOfClass}
-use Rattle.table_law.specs.NoteCounts.{is_taking, uses_in, has_number, arena_out, arena_in}
-use Rattle.table_law.proofs.Names.{and-first, and-second, same_taking-is}
-use Rattle.table_law.proofs.ArenaTakings.{of_taking}
-use Rattle.table_law.proofs.Regions.{OfCache, cache_own}
+use Rattle.history_laws.specs.Histories.{IsCacheAfter}
+use Rattle.history_laws.specs.Standing.{IsOfClass}
+use Rattle.history_laws.specs.NoteCounts.{is_taking, uses_in, has_number, arena_out, arena_in}
+use Rattle.history_laws.proofs.Names.{and-first, and-second, same_taking-is}
+use Rattle.history_laws.proofs.ArenaTakings.{of_taking}
+use Rattle.history_laws.proofs.Regions.{OfCache, cache_own}
 use Rattle.pool_table.specs.declared.views.Entry.{Entry}
 use Rattle.pool_table.specs.declared.views.Entry.TheVariants.{At, Ref, Busy}
 use Rattle.pool_table.specs.declared.views.Layout.{Layout}

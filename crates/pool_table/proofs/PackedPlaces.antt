@@ -5,7 +5,7 @@ use Rattle.pool_law.specs.declared.note.Object.TheVariants.{Root}
 use Rattle.pool_table.specs.Words.{single_of, padding, word_at, word_of, count_word_of}
 use Rattle.pool_table.specs.Slots.{slot_at, slot_of}
 use Rattle.pool_table.specs.Firsts.{AreFirsts}
-use Rattle.pool_table.specs.Sound.{IsShape}
+use Rattle.pool_table.specs.Sound.{IsTableShape}
 use Rattle.pool_table.specs.declared.firsts.Firsts.{Firsts}
 use Rattle.pool_table.proofs.Words.{word_lies, lies_packed}
 use Rattle.pool_table.proofs.Slots.{slot_packed}
@@ -43,20 +43,20 @@ count_here s p full =
     let g : n ≡ a * 16 + z + p = omega (arith, e) in
     g
 
-few_single : (s : Shape) → IsShape s → single_of s ≤ 1024
+few_single : (s : Shape) → IsTableShape s → single_of s ≤ 1024
 few_single s shape =
     let n : ℕ = s.lanes in let lanes : n ≤ 16 = shape.lanes in let arenas = shape.arenas in
     let g : s.arenas + n * 41 ≤ 1024 = omega (arith, lanes, arenas) in
     g
 
-few_places : (s : Shape) → IsShape s → s.lanes * s.handles ≤ 65536
+few_places : (s : Shape) → IsTableShape s → s.lanes * s.handles ≤ 65536
 few_places s shape =
     let h : ℕ = s.handles in let x : ℕ = s.lanes * h in let handles : h ≤ 4096 = shape.handles in
     let le : x ≤ 16 * h = mul-le-mul_right h shape.lanes in
     let g : x ≤ 65536 = omega (arith, handles, le) in
     g
 
-pub firsts_are : (s : Shape) → IsShape s → (f : Firsts) → f.packed ≤ s.lanes * s.handles
+pub firsts_are : (s : Shape) → IsTableShape s → (f : Firsts) → f.packed ≤ s.lanes * s.handles
     → (0 < f.packed → s.handles % 16 ≡ 0) → f.slot ≡ single_of s * 4 → f.word ≡ single_of s * 16
     → f.count ≡ single_of s * 16 + s.lanes * s.handles → AreFirsts s f
 firsts_are s shape f many full slot word count =

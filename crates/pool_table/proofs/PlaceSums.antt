@@ -8,7 +8,7 @@ use lib.ListN.{get_elem?}
 use Rattle.atomic_table.specs.Table.{State}
 use Rattle.pool_law.specs.declared.note.Noted.{Noted}
 use Rattle.pool_law.specs.declared.note.Object.TheVariants.{Root}
-use Rattle.table_law.specs.NoteCounts.{did_birth, did_end}
+use Rattle.history_laws.specs.NoteCounts.{did_birth, did_end}
 use Rattle.pool_table.specs.declared.views.Layout.{Layout}
 use Rattle.pool_table.specs.declared.views.SeatView.{SeatView}
 use Rattle.pool_table.specs.Counts.{ref_born, ref_ended, ref_vacated, on_place, on_root, place_tally, tally, weigh}

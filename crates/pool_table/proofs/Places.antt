@@ -15,9 +15,9 @@ use Rattle.pool_law.specs.declared.note.Noted.{Noted}
 use Rattle.pool_law.specs.declared.note.Object.{Object}
 use Rattle.pool_law.specs.declared.note.Object.TheVariants.{Bin, Root}
 use Rattle.pool_law.specs.Homes.{IsObjectOf}
-use Rattle.table_law.specs.Histories.{IsBinAfter}
-use Rattle.table_law.specs.NoteCounts.{place_lane, did_handle, did_home}
-use Rattle.table_law.proofs.Bins.{in_bin, foreign}
+use Rattle.history_laws.specs.Histories.{IsBinAfter}
+use Rattle.history_laws.specs.NoteCounts.{place_lane, did_handle, did_home}
+use Rattle.history_laws.proofs.Bins.{in_bin, foreign}
 use Rattle.pool_table.specs.declared.views.Layout.{Layout}
 use Rattle.pool_table.specs.declared.views.Part.{Part}
 use Rattle.pool_table.specs.declared.views.SeatView.{SeatView}

@@ -18,12 +18,12 @@ use Rattle.pool_law.specs.declared.note.Did.TheVariants.{Birth}
 use Rattle.pool_law.specs.declared.note.Object.{Object}
 use Rattle.pool_law.specs.declared.note.Object.TheVariants.{Root}
 use Rattle.pool_law.specs.Homes.{IsObjectOf}
-use Rattle.table_law.specs.Histories.{IsHistory, IsPlaceAfter, root_after}
-use Rattle.table_law.specs.NoteCounts.{did_birth, did_birth_of, did_end}
+use Rattle.history_laws.specs.Histories.{IsHistory, IsPlaceAfter, root_after}
+use Rattle.history_laws.specs.NoteCounts.{did_birth, did_birth_of, did_end}
 use Rattle.pool_law.specs.Roots.{Present, RootPlace}
-use Rattle.table_law.proofs.PlaceSteps.{root_in}
-use Rattle.table_law.proofs.Told.{place_there, last_place, root_is}
-use Rattle.table_law.proofs.Roots.{place_born, of_birth, place_births, place_ends, birth_step, end_step}
+use Rattle.history_laws.proofs.PlaceSteps.{root_in}
+use Rattle.history_laws.proofs.Told.{place_there, last_place, root_is}
+use Rattle.history_laws.proofs.Roots.{place_born, of_birth, place_births, place_ends, birth_step, end_step}
 use Rattle.pool_table.specs.declared.views.Entry.{Entry}
 use Rattle.pool_table.specs.declared.views.Entry.TheVariants.{At, Ref, Busy}
 use Rattle.pool_table.specs.declared.views.Part.{Part}

@@ -17,11 +17,11 @@ use Rattle.pool_law.specs.Homes.{home_of, IsObjectOf}
 use Rattle.pool_law.specs.Same.{same_taking}
 use Rattle.pool_law.specs.Caches.{Cache as CacheState}
 use Rattle.pool_law.specs.Roots.{RootPlace}
-use Rattle.table_law.specs.Histories.{IsCacheAfter, IsPlaceAfter}
-use Rattle.table_law.specs.NoteCounts.{is_taking, uses_in, has_number, weight_or, arena_out, arena_in, cache_out, cache_in, place_out, place_in}
-use Rattle.table_law.proofs.Names.{same_taking-by}
-use Rattle.table_law.proofs.ArenaTakings.{of_taking, uses_light, numbered_so, fewer_taken}
-use Rattle.table_law.proofs.Regions.{cache_law, place_law}
+use Rattle.history_laws.specs.Histories.{IsCacheAfter, IsPlaceAfter}
+use Rattle.history_laws.specs.NoteCounts.{is_taking, uses_in, has_number, weight_or, arena_out, arena_in, cache_out, cache_in, place_out, place_in}
+use Rattle.history_laws.proofs.Names.{same_taking-by}
+use Rattle.history_laws.proofs.ArenaTakings.{of_taking, uses_light, numbered_so, fewer_taken}
+use Rattle.history_laws.proofs.Regions.{cache_law, place_law}
 use Rattle.pool_table.specs.declared.views.Entry.{Entry}
 use Rattle.pool_table.specs.declared.views.Entry.TheVariants.{At, Ref, Busy}
 use Rattle.pool_table.specs.declared.views.Layout.{Layout}

@@ -19,14 +19,14 @@ use Rattle.pool_law.specs.Same.{same_taking}
 use Rattle.pool_law.specs.Arenas.{Arena as ArenaState, is_out_of}
 use Rattle.pool_law.specs.Caches.{Cache as CacheState}
 use Rattle.pool_law.specs.Roots.{RootPlace}
-use Rattle.table_law.specs.Histories.{IsHistory, IsArenaAfter}
-use Rattle.table_law.specs.Standing.{IsRegioned}
-use Rattle.table_law.specs.NoteCounts.{is_taking, has_number, weight_or, arena_out, arena_in, cache_out, cache_in, place_out, place_in}
-use Rattle.table_law.proofs.Names.{same_taking-refl}
-use Rattle.table_law.proofs.ArenaTakings.{arena_law, at_most}
-use Rattle.table_law.proofs.Regions.{arena_next, cache_next, place_next}
-use Rattle.table_law.proofs.TakingMoves.{regioned}
-use Rattle.table_law.proofs.Told.{arena_there, cache_there, place_there}
+use Rattle.history_laws.specs.Histories.{IsHistory, IsArenaAfter}
+use Rattle.history_laws.specs.Standing.{IsRegioned}
+use Rattle.history_laws.specs.NoteCounts.{is_taking, has_number, weight_or, arena_out, arena_in, cache_out, cache_in, place_out, place_in}
+use Rattle.history_laws.proofs.Names.{same_taking-refl}
+use Rattle.history_laws.proofs.ArenaTakings.{arena_laws, at_most}
+use Rattle.history_laws.proofs.Regions.{arena_next, cache_next, place_next}
+use Rattle.history_laws.proofs.TakingMoves.{regioned}
+use Rattle.history_laws.proofs.Told.{arena_there, cache_there, place_there}
 use Rattle.pool_table.specs.declared.views.Entry.{Entry}
 use Rattle.pool_table.specs.declared.views.Entry.TheVariants.{At, Ref, Busy}
 use Rattle.pool_table.specs.declared.views.Layout.{Layout}
@@ -68,7 +68,7 @@ module _ {H : Type 0} (stands : List ℕ → Setting → List Noted → H → Ty
   number_once s r a t = dite (dec_le (suc a) l.shape.arenas)
       (λ le. let fits : a < l.shape.arenas = omega (arith, le) in let h = (r.objects (Arena a) fits).history in
       let x = arena_there l.shape a h (r.objects (Arena a) fits).accepted in
-      let law = (arena_law l.shape a h x.0 (r.objects (Arena a) fits).accepted x.1).taken_once t in
+      let law = (arena_laws l.shape a h x.0 (r.objects (Arena a) fits).accepted x.1).taken_once t in
       let n = object_notes stands l s r (Arena a) fits (λ (n : Noted). arena_out (has_number a t) n.did)
       (λ lane e st. among a t e lane st) in
       omega (arith, law, n))

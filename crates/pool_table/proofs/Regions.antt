@@ -18,10 +18,10 @@ use Rattle.pool_law.specs.Same.{same_taking}
 use Rattle.pool_law.specs.Arenas.{Arena as ArenaState}
 use Rattle.pool_law.specs.Caches.{Cache as CacheState, new_cache}
 use Rattle.pool_law.specs.Roots.{RootPlace, new_place}
-use Rattle.table_law.specs.Histories.{IsArenaAfter}
-use Rattle.table_law.specs.NoteCounts.{is_taking, uses_in, weight_or, arena_out, arena_in, cache_out, cache_in, ended_region, place_out, place_in}
-use Rattle.table_law.proofs.ArenaTakings.{arena_law, uses_light, fewer_noted, sum_zero}
-use Rattle.table_law.proofs.Told.{arena_there, cache_there, place_there}
+use Rattle.history_laws.specs.Histories.{IsArenaAfter}
+use Rattle.history_laws.specs.NoteCounts.{is_taking, uses_in, weight_or, arena_out, arena_in, cache_out, cache_in, ended_region, place_out, place_in}
+use Rattle.history_laws.proofs.ArenaTakings.{arena_laws, uses_light, fewer_noted, sum_zero}
+use Rattle.history_laws.proofs.Told.{arena_there, cache_there, place_there}
 use Rattle.pool_table.specs.declared.views.Layout.{Layout}
 use Rattle.pool_table.specs.declared.views.SeatView.{SeatView}
 use Rattle.pool_table.specs.Views.{noted_weight}
@@ -52,7 +52,7 @@ module _ {H : Type 0} (stands : List ℕ → Setting → List Noted → H → Ty
       → Side s q (sum_by (is_taking q) x.out)
   arena_side s r q fits x after =
       let a : ℕ = q.place.arena in let o : Object = Arena a in let h = (r.objects o fits).history in
-      let law = arena_law l.shape a h x (r.objects o fits).accepted after in
+      let law = arena_laws l.shape a h x (r.objects o fits).accepted after in
       let t = object_notes stands l s r o fits (λ (n : Noted). arena_out (is_taking q) n.did)
       (among_arena stands l q (λ (n : Noted). arena_out (is_taking q) n.did) (λ n z. omega (arith, z))) in
       let g = object_notes stands l s r o fits (λ (n : Noted). arena_in (is_taking q) n.did)
@@ -256,7 +256,7 @@ module _ {H : Type 0} (stands : List ℕ → Setting → List Noted → H → Ty
   one_hand_at s r q g fits ea et i j v u ne at bt hv hu =
       let a : ℕ = q.place.arena in let h = (r.objects (Arena a) fits).history in let x =
       arena_there l.shape a h (r.objects (Arena a) fits).accepted in
-      let law = arena_law l.shape a h x.0 (r.objects (Arena a) fits).accepted x.1 in
+      let law = arena_laws l.shape a h x.0 (r.objects (Arena a) fits).accepted x.1 in
       let first = (in_hand s r i v q (sum_by (is_taking q) x.0.out) at (arena_side s r q fits x.0 x.1) hv).out_once in
       let second : sum_by (is_taking g) x.0.out ≡ 1 = second_out s r q g fits ea j u bt hu x.0 x.1 in
       let same = one_taking q g ea et x.0.out (law.once q.taking) (omega (arith, first)) (omega (arith, second)) in

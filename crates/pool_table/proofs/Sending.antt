@@ -20,7 +20,7 @@ use Rattle.pool_law.specs.declared.note.Object.{Object}
 use Rattle.pool_law.specs.declared.note.Object.TheVariants.{Mail}
 use Rattle.pool_law.specs.Homes.{home_of, objects_of}
 use Rattle.pool_law.specs.Logs.{has_history}
-use Rattle.table_law.specs.Standing.{IsInPlace}
+use Rattle.history_laws.specs.Standing.{IsInPlace}
 use Rattle.pool_table.specs.Words.{word_of, count_word_of}
 use Rattle.pool_table.specs.Slots.{slot_of}
 use Rattle.pool_table.specs.declared.views.Entry.{Entry}

@@ -12,7 +12,7 @@ use Rattle.pool_law.specs.declared.run.Shape.{Shape}
 use Rattle.pool_law.specs.declared.note.Object.{Object}
 use Rattle.pool_law.specs.declared.note.Object.TheVariants.{Arena, Cache, Bin, Mail, Root}
 use Rattle.pool_law.specs.Homes.{home_of, objects_of, IsObjectOf}
-use Rattle.table_law.proofs.Apart.{home_within}
+use Rattle.history_laws.proofs.Apart.{home_within}
 use Rattle.pool_table.specs.Words.{single_of}
 use Rattle.pool_table.specs.Slots.{slot_at, slots_of, slot_of, gap_of, laid_out, IsEmptyBetween}
 

@@ -14,7 +14,7 @@ use Rattle.pool_table.specs.Opened.{StandAtFirst}
 use Rattle.pool_table.specs.Words.{IsOpening}
 use Rattle.pool_table.specs.declared.views.Layout.{Layout}
 use Rattle.pool_table.specs.declared.views.SeatView.{SeatView}
-use Rattle.pool_table.specs.Sound.{IsSound, IsShape}
+use Rattle.pool_table.specs.Sound.{IsSound, IsTableShape}
 use Rattle.pool_table.specs.Steps.{first_view, rest_view, lane_view, first_lane, rest_of_lanes}
 use Rattle.pool_table.proofs.OpeningSeats.{cuts_allowed, cut_first, cut_rest, opens}
 
@@ -39,7 +39,7 @@ module _ {H : Type 0} (stands : List ℕ → Setting → List Noted → H → Ty
         ≡ suc n - 1 = omega arith in λ k. rest_view l (a k) (b k) g)),
   )
 
-  pub opens_as : (gs : Setting) (words : List ℕ) (slots : List (Option H)) (homes : List H) → IsShape l.shape
+  pub opens_as : (gs : Setting) (words : List ℕ) (slots : List (Option H)) (homes : List H) → IsTableShape l.shape
       → l.shape.lanes * l.turns < 4611686018427387904 → l.shape.lanes * l.moves < 1073741824 → IsOpening l.shape words
       → slots ≡ laid_out l.shape 0 homes → length homes ≡ objects_of l.shape → StandAtFirst stands l.shape gs homes
       → IsSound stands l (opening words slots (first_view l gs))

@@ -17,7 +17,7 @@ use Rattle.pool_law.specs.declared.note.Object.{Object}
 use Rattle.pool_law.specs.declared.note.Object.TheVariants.{Arena, Cache, Bin, Mail, Root}
 use Rattle.pool_law.specs.Kinds.{Passing, Stays, Goes, Comes, passing}
 use Rattle.pool_law.specs.Homes.{home_of, objects_of, IsObjectOf}
-use Rattle.table_law.proofs.Apart.{one_home}
+use Rattle.history_laws.proofs.Apart.{one_home}
 use Rattle.pool_table.specs.Words.{word_of, count_word_of}
 use Rattle.pool_table.proofs.Words.{object_word, object_once, object_no_count}
 use Rattle.pool_table.specs.Slots.{slot_of}

@@ -15,7 +15,7 @@ use Rattle.pool_law.specs.declared.note.Did.TheVariants.{Birth, Extend, Grow}
 use Rattle.pool_law.specs.Same.{same_root}
 use Rattle.pool_law.specs.Counts.{root_is}
 use Rattle.pool_law.specs.Capacities.{reach_of, told_by, known_of}
-use Rattle.table_law.specs.NoteCounts.{one_if_so}
+use Rattle.history_laws.specs.NoteCounts.{one_if_so}
 use Rattle.pool_table.specs.declared.views.Entry.{Entry}
 use Rattle.pool_table.specs.declared.views.Entry.TheVariants.{At, Ref, Busy}
 use Rattle.pool_table.specs.declared.views.Letter.{Letter}

@@ -7,11 +7,11 @@ use Rattle.pool_law.specs.declared.note.Did.TheVariants.{Handle}
 use Rattle.pool_law.specs.declared.note.Object.{Object}
 use Rattle.pool_law.specs.declared.note.Object.TheVariants.{Bin}
 use Rattle.pool_law.specs.Homes.{home_of, objects_of, IsObjectOf}
-use Rattle.table_law.proofs.Apart.{home_within}
+use Rattle.history_laws.proofs.Apart.{home_within}
 use Rattle.pool_law.specs.Caches.{new_bin, bin_step}
 use Rattle.pool_law.specs.Histories.{after}
 use Rattle.pool_law.specs.Naming.{noted_by}
-use Rattle.table_law.specs.Histories.{IsHistory}
+use Rattle.history_laws.specs.Histories.{IsHistory}
 
 -- a value that each of the homes is, each object's is
 pub each_stands : {H : Type 0} (s : Shape) (homes : List H) (P : H → Type 0) → length homes ≡ objects_of s → All P homes

@@ -27,7 +27,7 @@ use Rattle.pool_table.specs.declared.views.SeatView.{SeatView}
 use Rattle.pool_table.specs.Views.{ObjectView, parts_of, took_turn, is_lane, object_view, object_part, inside_at, numbered, spent}
 use Rattle.pool_table.specs.Counts.{IsCounted, on_root, ref_gain, ref_loss, ref_ended, ref_vacated, ref_born, on_place, weigh, tally, at_gain, at_loss, on_any, gained, lost, reached, returned, ref_kept, with_ref, ref_retain}
 use Rattle.pool_table.specs.Hands.{taken, put_down, IsOrderly}
-use Rattle.table_law.specs.NoteCounts.{is_root}
+use Rattle.history_laws.specs.NoteCounts.{is_root}
 use Rattle.pool_table.specs.Looks.{IsLookRight, retains_in}
 use Rattle.pool_table.specs.Order.{IsBelow}
 use Rattle.pool_table.proofs.Looks.{looks_entry, least_right, most_right}

@@ -6,7 +6,7 @@ use native.Mathlib.Decide.{ℕ_discrete, dec_le}
 use Rattle.pool_law.specs.declared.run.Shape.{Shape}
 use Rattle.pool_law.specs.declared.note.Object.{Object}
 use Rattle.pool_law.specs.Homes.{home_of, objects_of, IsObjectOf}
-use Rattle.table_law.proofs.Apart.{home_within}
+use Rattle.history_laws.proofs.Apart.{home_within}
 use Rattle.pool_table.specs.Words.{listed_of, single_of, padding, lies, all_words, word_at, words_of, word_of, count_word_of}
 
 pub lies_single : (s : Shape) (i : ℕ) → i < single_of s → lies s i ≡ i * 16

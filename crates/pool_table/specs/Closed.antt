@@ -13,8 +13,8 @@ use Rattle.pool_law.specs.Roots.{RootPlace}
 use Rattle.pool_table.specs.Holders.{AreStates, IsInOneHold}
 use Rattle.pool_law.specs.declared.note.Object.{Object}
 use Rattle.pool_law.specs.Homes.{home_of, objects_of, IsObjectOf}
-use Rattle.table_law.specs.Histories.{IsHistory}
-use Rattle.table_law.specs.Measures.{measures_of}
+use Rattle.history_laws.specs.Histories.{IsHistory}
+use Rattle.history_laws.specs.Measures.{measures_of}
 use Rattle.pool_table.specs.declared.views.Layout.{Layout}
 use Rattle.pool_table.specs.declared.views.SeatView.{SeatView}
 use Rattle.pool_table.specs.Views.{is_at, is_numbered, object_view, in_object_view, numbered}

@@ -5,7 +5,7 @@ use Rattle.pool_law.specs.declared.note.RefDid.{RefDid}
 use Rattle.pool_law.specs.declared.note.RefDid.TheVariants.{Born, Retain, Kept, Ended, Vacated, Look}
 use Rattle.pool_law.specs.declared.note.Noted.{Noted}
 use Rattle.pool_law.specs.Same.{same_root}
-use Rattle.table_law.specs.NoteCounts.{is_root, did_fetch, did_post, did_fetch_of, did_post_of}
+use Rattle.history_laws.specs.NoteCounts.{is_root, did_fetch, did_post, did_fetch_of, did_post_of}
 use Rattle.pool_table.specs.declared.views.Entry.{Entry}
 use Rattle.pool_table.specs.declared.views.Entry.TheVariants.{At, Ref, Busy}
 use Rattle.pool_table.specs.declared.views.Part.{Part}

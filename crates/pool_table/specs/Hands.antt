@@ -8,7 +8,7 @@ use Rattle.pool_law.specs.declared.note.Did.TheVariants.{Give, Kept, Home, Post,
 use Rattle.pool_law.specs.declared.note.Noted.{Noted}
 use Rattle.pool_law.specs.declared.note.Object.{Object}
 use Rattle.pool_law.specs.declared.note.Object.TheVariants.{Root}
-use Rattle.table_law.specs.NoteCounts.{did_handle, did_home, did_birth, did_birth_of, did_birth_as, did_end, did_end_of, is_taking, uses_in, arena_out, arena_in, cache_out, cache_in, place_out, place_in}
+use Rattle.history_laws.specs.NoteCounts.{did_handle, did_home, did_birth, did_birth_of, did_birth_as, did_end, did_end_of, is_taking, uses_in, arena_out, arena_in, cache_out, cache_in, place_out, place_in}
 use Rattle.pool_table.specs.declared.views.Entry.{Entry}
 use Rattle.pool_table.specs.declared.views.SeatView.{SeatView}
 use Rattle.pool_table.specs.Views.{noted_weight}

@@ -15,8 +15,8 @@ use Rattle.pool_law.specs.Limits.{cached_classes}
 use Rattle.pool_law.specs.Arenas.{Arena as ArenaState}
 use Rattle.pool_law.specs.Caches.{Cache as CacheState}
 use Rattle.pool_law.specs.Roots.{Present, RootPlace}
-use Rattle.table_law.specs.NoteCounts.{place_lane, is_taking, uses_in, weight_or}
-use Rattle.table_law.specs.Histories.{IsArenaAfter, IsCacheAfter, IsBinAfter, IsPlaceAfter}
+use Rattle.history_laws.specs.NoteCounts.{place_lane, is_taking, uses_in, weight_or}
+use Rattle.history_laws.specs.Histories.{IsArenaAfter, IsCacheAfter, IsBinAfter, IsPlaceAfter}
 use Rattle.pool_table.specs.declared.views.Layout.{Layout}
 use Rattle.pool_table.specs.declared.views.SeatView.{SeatView}
 use Rattle.pool_table.specs.Births.{IsBorn}

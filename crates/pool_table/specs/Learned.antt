@@ -13,9 +13,9 @@ use Rattle.pool_law.specs.NotedHistories.{MayNote}
 use Rattle.pool_law.specs.Arenas.{Arena as ArenaState, is_out_of}
 use Rattle.pool_law.specs.Caches.{Cache as CacheState}
 use Rattle.pool_law.specs.Roots.{Present, RootPlace}
-use Rattle.table_law.specs.Histories.{IsHistory, root_after, IsPlaceAfter, IsArenaAfter, IsCacheAfter, IsBinAfter}
-use Rattle.table_law.specs.NoteCounts.{one_if_so, is_taking, has_number, arena_out, cache_out, place_out}
-use Rattle.table_law.specs.Measures.{measures_of}
+use Rattle.history_laws.specs.Histories.{IsHistory, root_after, IsPlaceAfter, IsArenaAfter, IsCacheAfter, IsBinAfter}
+use Rattle.history_laws.specs.NoteCounts.{one_if_so, is_taking, has_number, arena_out, cache_out, place_out}
+use Rattle.history_laws.specs.Measures.{measures_of}
 use Rattle.pool_table.specs.declared.views.Entry.{Entry}
 use Rattle.pool_table.specs.declared.views.Layout.{Layout}
 use Rattle.pool_table.specs.declared.views.SeatView.{SeatView}

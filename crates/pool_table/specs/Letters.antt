@@ -8,7 +8,7 @@ use Rattle.pool_law.specs.declared.note.Noted.{Noted}
 use Rattle.pool_law.specs.declared.note.Object.{Object}
 use Rattle.pool_law.specs.declared.note.Object.TheVariants.{Mail}
 use Rattle.pool_law.specs.Kinds.{Passing, Goes, Comes, passing}
-use Rattle.table_law.specs.NoteCounts.{one_if_so}
+use Rattle.history_laws.specs.NoteCounts.{one_if_so}
 use Rattle.pool_table.specs.declared.views.Entry.{Entry}
 use Rattle.pool_table.specs.declared.views.Entry.TheVariants.{At, Ref, Busy}
 use Rattle.pool_table.specs.declared.views.Letter.{Letter}

@@ -9,14 +9,14 @@ use Rattle.pool_law.specs.declared.note.Held.{Held}
 use Rattle.pool_law.specs.declared.note.Object.{Object}
 use Rattle.pool_law.specs.Homes.{IsObjectOf}
 use Rattle.pool_law.specs.Naming.{noted_by}
-use Rattle.table_law.specs.Histories.{IsHistory}
-use Rattle.table_law.specs.Measures.{measures_of}
+use Rattle.history_laws.specs.Histories.{IsHistory}
+use Rattle.history_laws.specs.Measures.{measures_of}
 use Rattle.pool_table.specs.declared.views.Entry.TheVariants.{Busy}
 use Rattle.pool_table.specs.declared.views.Layout.{Layout}
 use Rattle.pool_table.specs.declared.views.SeatView.{SeatView}
 use Rattle.pool_table.specs.declared.table.PoolSeat.{PoolSeat}
 use Rattle.pool_table.specs.declared.table.Section.{Section}
-use Rattle.pool_table.specs.declared.table.Slot.{Slot}
+use Rattle.pool_table.specs.declared.table.HomeSlot.{HomeSlot}
 use Rattle.pool_table.specs.Words.{word_of}
 use Rattle.pool_table.specs.Slots.{slot_of}
 use Rattle.pool_table.specs.Views.{entered, with_entry}
@@ -26,7 +26,7 @@ use Rattle.pool_table.specs.Learned.{Enters}
 
 -- a seat is in the section of an object with this history, whose home value is out of its slot
 pub record IsInside {H : Type 0}
-    (s : Shape) (me : Me (Option H) SeatView) (o : Object) (slot : Slot) (h : List Noted) :
+    (s : Shape) (me : Me (Option H) SeatView) (o : Object) (slot : HomeSlot) (h : List Noted) :
     Type 0 where
   pub inside : me.0.inside ≡ Some (record { object = o; number = length h; history = h })
   pub holds : me.1 ≡ (slot.home, None) ∷ []

@@ -13,11 +13,11 @@ use Rattle.pool_law.specs.declared.note.Noted.{Noted}
 use Rattle.pool_law.specs.declared.note.Object.{Object}
 use Rattle.pool_law.specs.declared.note.Object.TheVariants.{Arena, Cache, Bin, Mail, Root}
 use Rattle.pool_law.specs.Homes.{home_of, objects_of, IsObjectOf}
-use Rattle.table_law.specs.Measures.{measures_of}
+use Rattle.history_laws.specs.Measures.{measures_of}
 use Rattle.pool_table.specs.Words.{words_of, word_of, count_word_of}
 use Rattle.pool_table.specs.Slots.{slot_at, slots_of, slot_of}
-use Rattle.table_law.specs.Histories.{IsHistory, root_after}
-use Rattle.table_law.specs.Standing.{IsInPlace}
+use Rattle.history_laws.specs.Histories.{IsHistory, root_after}
+use Rattle.history_laws.specs.Standing.{IsInPlace}
 use Rattle.pool_table.specs.declared.views.Entry.{Entry}
 use Rattle.pool_table.specs.declared.views.Entry.TheVariants.{At, Ref, Busy}
 use Rattle.pool_table.specs.declared.views.Part.{Part}
@@ -165,7 +165,7 @@ pub record IsView (s : Shape) (setting : Setting) (v : SeatView) : Type 0 where
   pub enters : (x : Inside) (p : ℕ) → v.inside ≡ Some x → x.object ≡ Root p → MayEnter p v
 
 -- the limits of a shape, as far as the table needs them
-pub record IsShape (s : Shape) : Type 0 where
+pub record IsTableShape (s : Shape) : Type 0 where
   pub arenas : s.arenas ≤ 8
   pub some_lane : 0 < s.lanes
   pub lanes : s.lanes ≤ 16

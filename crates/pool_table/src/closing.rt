@@ -7,7 +7,7 @@ ghost use Rattle.std.specs.Mem.Slots.{slots_items, slots_filled, slots_len, IsFu
 ghost use Rattle.pool_law.specs.Homes.{objects_of};
 ghost use Rattle.pool_table.specs.Words.{listed_of, word_at, words_of};
 ghost use Rattle.pool_table.specs.Slots.{slot_at, slots_of, IsEmptyBetween};
-ghost use Rattle.pool_table.specs.Sound.{IsShape};
+ghost use Rattle.pool_table.specs.Sound.{IsTableShape};
 ghost use Rattle.pool_table.specs.Seats.{view_of, IsSeatOf, IsOutside};
 ghost use Rattle.pool_table.specs.Closed.{HasAllLanes, IsClosed};
 
@@ -47,7 +47,7 @@ impl<H: Told<Note = Noted>> PoolTable<H> {
 
 // The words of a closed table in the order of the list, into a Vec that has room.
 fn take_words<S>(closed: &Closed<S, Global>, shape: &Shape, mut words: Vec<u64>) -> Vec<u64>
-    requires shape { IsShape shape.now }
+    requires shape { IsTableShape shape.now }
     requires full { IsFull closed.now.words × (slots_len closed.now.words ≡ words_of shape.now) }
     requires room { (words.items ≡ []) × (listed_of shape.now ≤ vec_capacity words) }
     ensures many { length result.items ≡ listed_of shape.now }
@@ -71,7 +71,7 @@ fn take_homes<H>(
     shape: &Shape,
     mut homes: Vec<Option<H>>,
 ) -> Vec<Option<H>>
-    requires shape { IsShape shape.now }
+    requires shape { IsTableShape shape.now }
     requires full { IsFull closed.old.slots × (slots_len closed.old.slots ≡ slots_of shape.now) }
     requires between { IsEmptyBetween shape.now (slots_items closed.old.slots) }
     requires room { (homes.items ≡ []) × (objects_of shape.now ≤ vec_capacity homes) }

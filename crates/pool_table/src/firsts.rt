@@ -2,7 +2,7 @@
 
 ghost use Rattle.std.specs.Prelude.{◌≡◌, ◌≤◌, ◌<◌, ◌*◌, ◌%◌};
 ghost use Rattle.pool_table.specs.Firsts.{AreFirsts};
-ghost use Rattle.pool_table.specs.Sound.{IsShape};
+ghost use Rattle.pool_table.specs.Sound.{IsTableShape};
 
 use crate::index::single_count;
 use pool_law::Shape;
@@ -22,7 +22,7 @@ pub(crate) struct Firsts {
 
 impl Firsts {
     pub(crate) fn of(shape: &Shape) -> Firsts
-        requires { IsShape shape.now }
+        requires { IsTableShape shape.now }
         ensures { AreFirsts shape.now result }
     {
         let single = single_count(shape);
@@ -39,7 +39,7 @@ impl Firsts {
 
 // How many root places are packed.
 fn packed_count(shape: &Shape) -> u32
-    requires { IsShape shape.now }
+    requires { IsTableShape shape.now }
     ensures within { result ≤ shape.now.lanes * shape.now.handles }
     ensures full { 0 < result → shape.now.handles % 16 ≡ 0 }
 {

@@ -3,12 +3,12 @@ ghost use Rattle.std.specs.Prelude.{◌≡◌, ◌≤◌, ◌<◌, ◌*◌};
 ghost use Rattle.pool_law.specs.Homes.{home_of, objects_of, IsObjectOf};
 ghost use Rattle.pool_law.specs.declared.note.Object.TheVariants.{Root};
 ghost use Rattle.pool_table.specs.Firsts.{AreFirsts};
-ghost use Rattle.pool_table.specs.Sound.{IsShape};
+ghost use Rattle.pool_table.specs.Sound.{IsTableShape};
 ghost use Rattle.pool_table.specs.Words.{listed_of, single_of, word_at, word_of, words_of, count_word_of};
 ghost use Rattle.pool_table.specs.Slots.{gap_of, slot_at, slot_of, slots_of};
 
 use crate::firsts::Firsts;
-use crate::table::Slot;
+use crate::table::HomeSlot;
 use pool_law::{Object, Shape};
 use size_classes::CACHED_CLASSES;
 
@@ -20,7 +20,7 @@ const LANE_HOMES: usize = CACHES + 1;
 
 #[inline(always)]
 pub(crate) fn home_index(shape: &Shape, object: Object) -> usize
-    requires shape { IsShape shape.now }
+    requires shape { IsTableShape shape.now }
     requires object { IsObjectOf shape.now object }
     ensures { result ≡ home_of shape.now object }
 {
@@ -37,7 +37,7 @@ pub(crate) fn home_index(shape: &Shape, object: Object) -> usize
 
 #[inline(always)]
 pub(crate) fn object_count(shape: &Shape) -> usize
-    requires { IsShape shape.now }
+    requires { IsTableShape shape.now }
     ensures { result ≡ objects_of shape.now }
 {
     let lanes = shape.lanes as usize;
@@ -45,14 +45,14 @@ pub(crate) fn object_count(shape: &Shape) -> usize
 }
 
 pub(crate) fn listed_count(shape: &Shape) -> usize
-    requires { IsShape shape.now }
+    requires { IsTableShape shape.now }
     ensures { result ≡ listed_of shape.now }
 {
     object_count(shape) + shape.lanes as usize * shape.handles as usize
 }
 
 pub(crate) fn word_count(shape: &Shape) -> usize
-    requires { IsShape shape.now }
+    requires { IsTableShape shape.now }
     ensures { result ≡ words_of shape.now }
 {
     let lanes = shape.lanes as usize;
@@ -64,7 +64,7 @@ pub(crate) fn word_count(shape: &Shape) -> usize
 /// Where a word of the list lies. With a multiple of 16 handles a lane it divides nothing.
 #[inline(always)]
 pub(crate) fn word_index(shape: &Shape, listed: usize) -> usize
-    requires shape { IsShape shape.now }
+    requires shape { IsTableShape shape.now }
     requires listed { listed < listed_of shape.now }
     ensures { result ≡ word_at shape.now listed }
 {
@@ -86,7 +86,7 @@ pub(crate) fn word_index(shape: &Shape, listed: usize) -> usize
 /// step is made there; for such a place the answer is the first word.
 #[inline(always)]
 pub(crate) fn root_index(shape: &Shape, firsts: &Firsts, place: u32) -> usize
-    requires shape { IsShape shape.now }
+    requires shape { IsTableShape shape.now }
     requires firsts { AreFirsts shape.now firsts.now }
     ensures within { result < words_of shape.now }
     ensures there { place < shape.now.lanes * shape.now.handles →
@@ -101,7 +101,7 @@ pub(crate) fn root_index(shape: &Shape, firsts: &Firsts, place: u32) -> usize
 
 // The same, of a place that isn't packed.
 fn padded_root_index(shape: &Shape, place: u32) -> usize
-    requires shape { IsShape shape.now }
+    requires shape { IsTableShape shape.now }
     ensures within { result < words_of shape.now }
     ensures there { place < shape.now.lanes * shape.now.handles →
         result ≡ count_word_of shape.now place }
@@ -115,7 +115,7 @@ fn padded_root_index(shape: &Shape, place: u32) -> usize
 
 #[inline(always)]
 pub(crate) fn single_count(shape: &Shape) -> usize
-    requires { IsShape shape.now }
+    requires { IsTableShape shape.now }
     ensures { result ≡ single_of shape.now }
 {
     let lanes = shape.lanes as usize;
@@ -125,7 +125,7 @@ pub(crate) fn single_count(shape: &Shape) -> usize
 /// Where the slot of a number lies, and where the last one ends.
 #[inline(always)]
 pub(crate) fn slot_index(shape: &Shape, number: usize) -> usize
-    requires shape { IsShape shape.now }
+    requires shape { IsTableShape shape.now }
     requires number { number ≤ objects_of shape.now }
     ensures { result ≡ slot_at shape.now number }
 {
@@ -138,7 +138,7 @@ pub(crate) fn slot_index(shape: &Shape, number: usize) -> usize
 }
 
 pub(crate) fn slot_count(shape: &Shape) -> usize
-    requires { IsShape shape.now }
+    requires { IsTableShape shape.now }
     ensures { result ≡ slots_of shape.now }
 {
     slot_index(shape, object_count(shape))
@@ -146,7 +146,7 @@ pub(crate) fn slot_count(shape: &Shape) -> usize
 
 /// How many slots are empty behind the slot of a number.
 pub(crate) fn gap_count(shape: &Shape, number: usize) -> usize
-    requires { IsShape shape.now }
+    requires { IsTableShape shape.now }
     ensures { result ≡ gap_of shape.now number }
 {
     if number < single_count(shape) { 3 } else { 0 }
@@ -154,20 +154,20 @@ pub(crate) fn gap_count(shape: &Shape, number: usize) -> usize
 
 /// Where an object's home value and its word lie.
 #[inline(always)]
-pub(crate) fn object_slot(shape: &Shape, object: Object) -> Slot
-    requires shape { IsShape shape.now }
+pub(crate) fn object_slot(shape: &Shape, object: Object) -> HomeSlot
+    requires shape { IsTableShape shape.now }
     requires object { IsObjectOf shape.now object }
     ensures home { result.home ≡ slot_of shape.now object }
     ensures word { result.word ≡ word_of shape.now object }
 {
     let number = home_index(shape, object);
     if let Object::Root(_) = object {
-        Slot {
+        HomeSlot {
             home: slot_index(shape, number),
             word: word_index(shape, number),
         }
     } else {
-        Slot {
+        HomeSlot {
             home: number * 4,
             word: number * 16,
         }
@@ -177,8 +177,8 @@ pub(crate) fn object_slot(shape: &Shape, object: Object) -> Slot
 /// Where the home value of a root place and its word lie. No place is claimed that the shape
 /// doesn't have; for such a place the answer is the first slot and the first word.
 #[inline(always)]
-pub(crate) fn place_slot(shape: &Shape, firsts: &Firsts, place: u32) -> Slot
-    requires shape { IsShape shape.now }
+pub(crate) fn place_slot(shape: &Shape, firsts: &Firsts, place: u32) -> HomeSlot
+    requires shape { IsTableShape shape.now }
     requires firsts { AreFirsts shape.now firsts.now }
     ensures within { result.word < words_of shape.now }
     ensures home { place < shape.now.lanes * shape.now.handles →
@@ -187,7 +187,7 @@ pub(crate) fn place_slot(shape: &Shape, firsts: &Firsts, place: u32) -> Slot
         result.word ≡ word_of shape.now (Root place) }
 {
     if place < firsts.packed {
-        Slot {
+        HomeSlot {
             home: firsts.slot + place as usize,
             word: firsts.word + place as usize,
         }
@@ -197,8 +197,8 @@ pub(crate) fn place_slot(shape: &Shape, firsts: &Firsts, place: u32) -> Slot
 }
 
 // The same, of a place that isn't packed.
-fn padded_place_slot(shape: &Shape, place: u32) -> Slot
-    requires shape { IsShape shape.now }
+fn padded_place_slot(shape: &Shape, place: u32) -> HomeSlot
+    requires shape { IsTableShape shape.now }
     ensures within { result.word < words_of shape.now }
     ensures home { place < shape.now.lanes * shape.now.handles →
         result.home ≡ slot_of shape.now (Root place) }
@@ -208,14 +208,14 @@ fn padded_place_slot(shape: &Shape, place: u32) -> Slot
     if place < shape.lanes * shape.handles {
         object_slot(shape, Object::Root(place))
     } else {
-        Slot { home: 0, word: 0 }
+        HomeSlot { home: 0, word: 0 }
     }
 }
 
 /// Where the word of a root place's count lies.
 #[inline(always)]
 pub(crate) fn count_index(shape: &Shape, place: u32) -> usize
-    requires shape { IsShape shape.now }
+    requires shape { IsTableShape shape.now }
     requires place { place < shape.now.lanes * shape.now.handles }
     ensures { result ≡ count_word_of shape.now place }
 {

@@ -9,7 +9,7 @@ ghost use Rattle.pool_table.specs.Mailing.{HoldsParcel, MayReceive, MaySend};
 ghost use Rattle.pool_table.specs.Seats.{view_of, IsSeatOf, IsOutside, HasView, SameSeat};
 ghost use Rattle.pool_table.specs.Steps.{letter_beside, sends_next};
 
-use crate::rule::{Claiming, Lettered, Receives, Sends, Stays};
+use crate::rule::{Claiming, Lettered, ReceiveStep, SendStep, StayStep};
 use crate::table::{PoolSeat, PoolTable};
 use crate::views::{Letter, SeatView};
 use atomic_table::Seat;
@@ -35,7 +35,7 @@ impl<H: Told<Note = Noted>> PoolTable<H> {
         ensures made { result.table_id ≡ seat.old.table_id }
         ensures letter { result.me ≡ (letter_beside to parcel seat.old.me.0, []) }
     {
-        self.table.shared.split_seat::<Sends<X>>(seat)
+        self.table.shared.split_seat::<SendStep<X>>(seat)
     }
 
     // A step that notes nothing, after which the seat knows what it counts.
@@ -48,7 +48,7 @@ impl<H: Told<Note = Noted>> PoolTable<H> {
         ensures counts { CountsOne seat.new.me.0 }
         ensures knows { KnowsCounts self.now.layout seat.new.me.0 }
     {
-        self.table.shared.load::<Stays<C>>(seat, 0);
+        self.table.shared.load::<StayStep<C>>(seat, 0);
     }
 
     // The same, in this table's layout.
@@ -79,7 +79,7 @@ impl<H: Told<Note = Noted>> PoolTable<H> {
         }
     }
 
-    /// Sends a parcel to a lane: the letter comes with a seat of its own, which holds nothing else.
+    /// SendStep a parcel to a lane: the letter comes with a seat of its own, which holds nothing else.
     /// The letter's number is one above those that the seat sent there before. It takes no memory.
     pub fn send(&self, seat: &mut PoolSeat<H>, to: u32, parcel: Parcel) -> PoolSeat<H>
         requires own { IsSeatOf self.now seat.old }
@@ -100,7 +100,7 @@ impl<H: Told<Note = Noted>> PoolTable<H> {
         self.unnumbered(other, Some(letter))
     }
 
-    /// Receives the letter that the other seat holds, which is spent. It takes no memory.
+    /// ReceiveStep the letter that the other seat holds, which is spent. It takes no memory.
     pub fn receive(&self, seat: &mut PoolSeat<H>, other: PoolSeat<H>) -> Letter
         requires own { IsSeatOf self.now seat.old }
         requires other_own { IsSeatOf self.now other }
@@ -118,7 +118,7 @@ impl<H: Told<Note = Noted>> PoolTable<H> {
         self.look_round(&mut seat.seat);
         self.table
             .shared
-            .join_seat::<Receives>(&mut seat.seat, other);
+            .join_seat::<ReceiveStep>(&mut seat.seat, other);
         self.look_round(&mut seat.seat);
         letter
     }

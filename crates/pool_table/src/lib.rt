@@ -26,6 +26,8 @@ mod tokens;
 mod views;
 
 pub use roots::{Dropped, EndToken};
-pub use rule::{Blanks, Claiming, Claims, Dones, Idles, Joins, MarksClaims, Opening, Rule};
+pub use rule::{
+    BlankStep, ClaimStep, Claiming, DoneStep, IdleStep, JoinStep, MarkStep, Opening, Rule,
+};
 pub use table::{PoolSeat, PoolTable, Section};
 pub use views::{Entry, Fixed, Inside, Layout, Letter, Part, SeatView};

@@ -1,7 +1,7 @@
 //! What `new` lays out before the table is made.
 ghost use Rattle.std.specs.Prelude.{◌≡◌, ◌≤◌, ◌+◌, ◌++◌, [], length, filter_map, replicate, None, IfOk, vec_len, vec_capacity};
 ghost use Rattle.pool_law.specs.Homes.{objects_of};
-ghost use Rattle.pool_table.specs.Sound.{IsShape};
+ghost use Rattle.pool_table.specs.Sound.{IsTableShape};
 ghost use Rattle.pool_table.specs.Words.{IsOpening};
 ghost use Rattle.pool_table.specs.Slots.{laid_out, slots_of};
 
@@ -11,7 +11,7 @@ use std::alloc::{AllocError, Global};
 
 // The words of a table in which nothing was noted yet.
 pub(crate) fn opening_words(alloc: Global, shape: &Shape) -> Result<Vec<u64>, AllocError>
-    requires { IsShape shape.now }
+    requires { IsTableShape shape.now }
     ensures { IfOk result (λ v. IsOpening shape.now v.items) }
 {
     let mut words = Vec::from_elem(alloc, 0u64, word_count(shape))?;
@@ -29,7 +29,7 @@ pub(crate) fn wrapped<H>(
     homes: &mut Vec<H>,
     mut slots: Vec<Option<H>>,
 ) -> Vec<Option<H>>
-    requires shape { IsShape shape.now }
+    requires shape { IsTableShape shape.now }
     requires homes { vec_len homes.old ≡ objects_of shape.now }
     requires slots { (slots.items ≡ []) × (slots_of shape.now ≤ vec_capacity slots) }
     ensures slots { result.items ≡ laid_out shape.now 0 homes.old.items }

@@ -4,14 +4,14 @@ ghost use Rattle.std.specs.Prelude.{◌≡◌, ◌*◌, ◌<◌, ◌≤◌, ◌^
 ghost use Rattle.pool_law.specs.Homes.{objects_of};
 ghost use Rattle.pool_table.specs.Words.{listed_of, IsOpening};
 ghost use Rattle.pool_table.specs.Slots.{slots_of};
-ghost use Rattle.pool_table.specs.Sound.{IsShape};
+ghost use Rattle.pool_table.specs.Sound.{IsTableShape};
 ghost use Rattle.pool_table.specs.Steps.{first_view};
 ghost use Rattle.pool_table.specs.Opened.{AreFirstSeats, AreNone, StandAtFirst};
 
 use crate::firsts::Firsts;
 use crate::index::{listed_count, object_count, slot_count};
 use crate::making::{opening_words, unwrapped, wrapped};
-use crate::rule::{Cuts, Opening};
+use crate::rule::{CutStep, Opening};
 use crate::table::{LANES, PoolSeat, PoolTable};
 use crate::views::{Layout, SeatView};
 use atomic_table::{Refused, Seat, Table};
@@ -43,7 +43,7 @@ fn no_letters(alloc: Global, lanes: u32) -> Result<Vec<Vec<u64>>, AllocError>
 }
 
 fn take_room<H: Told<Note = Noted>>(alloc: Global, shape: &Shape) -> Result<Room<H>, AllocError>
-    requires { IsShape shape.now }
+    requires { IsTableShape shape.now }
     ensures words { IfOk result (λ r. IsOpening shape.now r.words.items) }
     ensures slots { IfOk result (λ r.
         (r.slots.items ≡ []) × (slots_of shape.now ≤ vec_capacity r.slots)) }
@@ -82,7 +82,7 @@ fn take_room<H: Told<Note = Noted>>(alloc: Global, shape: &Shape) -> Result<Room
 }
 
 impl<H: Told<Note = Noted>> PoolTable<H> {
-    // Cuts the first seats out of the opening view.
+    // CutStep the first seats out of the opening view.
     fn first_seats(
         &self,
         mut rest: Seat<Option<H>, SeatView>,
@@ -99,7 +99,7 @@ impl<H: Told<Note = Noted>> PoolTable<H> {
             AreFirstSeats self.now.layout (H.settles homes.items) self.now result.items }
     {
         for i in 0..self.layout.shape.lanes {
-            let seat = self.table.shared.split_seat::<Cuts>(&mut rest);
+            let seat = self.table.shared.split_seat::<CutStep>(&mut rest);
             let Some(sent) = counts.pop() else {
                 unreachable!()
             };
@@ -121,7 +121,7 @@ impl<H: Told<Note = Noted>> PoolTable<H> {
         layout: Layout,
         mut homes: Vec<H>,
     ) -> Result<(PoolTable<H>, Vec<PoolSeat<H>>), Vec<H>>
-        requires shape { IsShape layout.shape }
+        requires shape { IsTableShape layout.shape }
         requires homes { length homes.items ≡ objects_of layout.shape }
         requires stand { StandAtFirst H.stands layout.shape (H.settles homes.items) homes.items }
         requires moves { layout.shape.lanes * layout.moves < 2 ^ 30 }

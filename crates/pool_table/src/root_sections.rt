@@ -13,8 +13,8 @@ ghost use Rattle.pool_table.specs.Steps.{claims, marks_claims};
 ghost use Rattle.pool_table.specs.Sections.{GotSection, FoundHeld};
 
 use crate::index::place_slot;
-use crate::rule::{Claiming, Claims, MarksClaims};
-use crate::table::{PoolSeat, PoolTable, Section, Slot};
+use crate::rule::{ClaimStep, Claiming, MarkStep};
+use crate::table::{HomeSlot, PoolSeat, PoolTable, Section};
 use crate::views::SeatView;
 use atomic_table::Seat;
 use pool_law::{Held, Noted, Object};
@@ -28,7 +28,7 @@ impl<H: Told<Note = Noted>> PoolTable<H> {
         &self,
         seat: &mut Seat<Option<H>, SeatView>,
         place: u32,
-        slot: Slot,
+        slot: HomeSlot,
         mark: bool,
     ) -> u64
         requires named { (C.object ≡ Root place) × (C.layout ≡ self.now.layout) }
@@ -50,9 +50,11 @@ impl<H: Told<Note = Noted>> PoolTable<H> {
         if mark {
             self.table
                 .shared
-                .fetch_or::<MarksClaims<C>>(seat, slot.word, 1)
+                .fetch_or::<MarkStep<C>>(seat, slot.word, 1)
         } else {
-            self.table.shared.fetch_or::<Claims<C>>(seat, slot.word, 1)
+            self.table
+                .shared
+                .fetch_or::<ClaimStep<C>>(seat, slot.word, 1)
         }
     }
 

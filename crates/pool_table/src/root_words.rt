@@ -12,7 +12,7 @@ ghost use Rattle.pool_table.specs.Hands.{HasEnded, InHand, IsAwaited};
 ghost use Rattle.pool_table.specs.Steps.{births, releases};
 
 use crate::index::root_index;
-use crate::rule::{Births, Looks, Releases, Retains, Rooted, Vacates};
+use crate::rule::{BirthStep, LookStep, ReleaseStep, RetainStep, Rooted, VacateStep};
 use crate::table::PoolTable;
 use crate::views::SeatView;
 use atomic_table::Seat;
@@ -40,7 +40,7 @@ impl<H: Told<Note = Noted>> PoolTable<H> {
         let word = root_index(&self.layout.shape, &self.firsts, root.place);
         self.table
             .shared
-            .fetch_add::<Births<R>>(seat, word, (1 << 32) + 1)
+            .fetch_add::<BirthStep<R>>(seat, word, (1 << 32) + 1)
     }
 
     #[inline(always)]
@@ -60,7 +60,7 @@ impl<H: Told<Note = Noted>> PoolTable<H> {
             seat.new.me ≡ (with_ref v root Retain (v.moves - 1), seat.old.me.1) }
     {
         let word = root_index(&self.layout.shape, &self.firsts, root.place);
-        self.table.shared.fetch_add::<Retains<R>>(seat, word, 2)
+        self.table.shared.fetch_add::<RetainStep<R>>(seat, word, 2)
     }
 
     #[inline(always)]
@@ -81,7 +81,7 @@ impl<H: Told<Note = Noted>> PoolTable<H> {
             releases root s seat.old.me result seat.new.me }
     {
         let word = root_index(&self.layout.shape, &self.firsts, root.place);
-        self.table.shared.fetch_sub::<Releases<R>>(seat, word, 2)
+        self.table.shared.fetch_sub::<ReleaseStep<R>>(seat, word, 2)
     }
 
     #[inline(always)]
@@ -102,7 +102,7 @@ impl<H: Told<Note = Noted>> PoolTable<H> {
             seat.new.me ≡ (with_ref v root Vacated v.moves, seat.old.me.1) }
     {
         let word = root_index(&self.layout.shape, &self.firsts, root.place);
-        self.table.shared.fetch_add::<Vacates<R>>(seat, word, 1)
+        self.table.shared.fetch_add::<VacateStep<R>>(seat, word, 1)
     }
 
     #[inline(always)]
@@ -121,6 +121,6 @@ impl<H: Told<Note = Noted>> PoolTable<H> {
             seat.new.me ≡ (with_ref seat.old.me.0 root look seat.old.me.0.moves, seat.old.me.1) }
     {
         let word = root_index(&self.layout.shape, &self.firsts, root.place);
-        self.table.shared.load::<Looks<R>>(seat, word)
+        self.table.shared.load::<LookStep<R>>(seat, word)
     }
 }

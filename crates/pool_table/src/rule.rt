@@ -42,47 +42,47 @@ impl Claiming for Brand {
     ghost layout = { no_layout };
 }
 
-pub struct Claims<C> {
+pub struct ClaimStep<C> {
     of: PhantomData<C>,
 }
 
-impl<H: Told<Note = Noted>, C: Claiming> Play<Option<H>, SeatView> for Claims<C> {
+impl<H: Told<Note = Noted>, C: Claiming> Play<Option<H>, SeatView> for ClaimStep<C> {
     ghost use Rattle.pool_table.specs.Steps.{claims};
 
     ghost then = { claims H.stands C.layout C.object };
 }
 
-pub struct MarksClaims<C> {
+pub struct MarkStep<C> {
     of: PhantomData<C>,
 }
 
-impl<H: Told<Note = Noted>, C: Claiming> Play<Option<H>, SeatView> for MarksClaims<C> {
+impl<H: Told<Note = Noted>, C: Claiming> Play<Option<H>, SeatView> for MarkStep<C> {
     ghost use Rattle.pool_table.specs.Steps.{marks_claims};
 
     ghost then = { marks_claims H.stands C.layout C.object };
 }
 
-pub struct Dones<N> {
+pub struct DoneStep<N> {
     of: PhantomData<N>,
 }
 
-impl<H: Told<Note = Noted>, N: Named> Play<Option<H>, SeatView> for Dones<N> {
+impl<H: Told<Note = Noted>, N: Named> Play<Option<H>, SeatView> for DoneStep<N> {
     ghost use Rattle.pool_table.specs.Steps.{counts_one, dones};
 
     ghost then = { counts_one (dones N.note) };
 }
 
-pub struct Idles;
+pub struct IdleStep;
 
-impl<H: Told<Note = Noted>> Play<Option<H>, SeatView> for Idles {
+impl<H: Told<Note = Noted>> Play<Option<H>, SeatView> for IdleStep {
     ghost use Rattle.pool_table.specs.Steps.{idles};
 
     ghost then = { idles };
 }
 
-pub struct Blanks;
+pub struct BlankStep;
 
-impl Split<SeatView> for Blanks {
+impl Split<SeatView> for BlankStep {
     ghost use Rattle.pool_table.specs.Steps.{blank_beside};
 
     ghost left = { λ v. v };
@@ -101,11 +101,11 @@ impl Sharing for Brand {
     ghost moves = { 0 };
 }
 
-pub struct Shares<M> {
+pub struct ShareStep<M> {
     of: PhantomData<M>,
 }
 
-impl<M: Sharing> Split<SeatView> for Shares<M> {
+impl<M: Sharing> Split<SeatView> for ShareStep<M> {
     ghost use Rattle.pool_table.specs.Steps.{share_left, share_of};
 
     ghost left = { share_left M.moves };
@@ -131,11 +131,11 @@ impl Lettered for Brand {
     ghost parcel = { no_parcel };
 }
 
-pub struct Sends<X> {
+pub struct SendStep<X> {
     of: PhantomData<X>,
 }
 
-impl<X: Lettered> Split<SeatView> for Sends<X> {
+impl<X: Lettered> Split<SeatView> for SendStep<X> {
     ghost use Rattle.pool_table.specs.Steps.{sends_next, letter_beside};
 
     ghost left = { sends_next X.to X.parcel };
@@ -143,10 +143,10 @@ impl<X: Lettered> Split<SeatView> for Sends<X> {
     ghost right = { letter_beside X.to X.parcel };
 }
 
-/// Cuts off the first of the other parts, with its share of the moves and turns.
-pub struct Cuts;
+/// CutStep off the first of the other parts, with its share of the moves and turns.
+pub struct CutStep;
 
-impl Split<SeatView> for Cuts {
+impl Split<SeatView> for CutStep {
     ghost use Rattle.pool_table.specs.Steps.{rest_of_lanes, first_lane};
 
     ghost left = { rest_of_lanes };
@@ -154,9 +154,9 @@ impl Split<SeatView> for Cuts {
     ghost right = { first_lane };
 }
 
-pub struct Joins;
+pub struct JoinStep;
 
-impl Join<SeatView> for Joins {
+impl Join<SeatView> for JoinStep {
     ghost use Rattle.std.specs.Prelude.{None};
     ghost use Rattle.pool_table.specs.Views.{joined, blank};
 
@@ -166,9 +166,9 @@ impl Join<SeatView> for Joins {
 }
 
 /// Adds the moves of a share, which has nothing else, so that no part of it stays.
-pub struct Accepts;
+pub struct AcceptStep;
 
-impl Join<SeatView> for Accepts {
+impl Join<SeatView> for AcceptStep {
     ghost use Rattle.std.specs.Prelude.{None};
     ghost use Rattle.pool_table.specs.Steps.{share_added};
     ghost use Rattle.pool_table.specs.Views.{blank};
@@ -178,10 +178,10 @@ impl Join<SeatView> for Accepts {
     ghost spent = { blank None };
 }
 
-/// Receives the letter of the other seat.
-pub struct Receives;
+/// ReceiveStep the letter of the other seat.
+pub struct ReceiveStep;
 
-impl Join<SeatView> for Receives {
+impl Join<SeatView> for ReceiveStep {
     ghost use Rattle.std.specs.Prelude.{None};
     ghost use Rattle.pool_table.specs.Views.{blank};
     ghost use Rattle.pool_table.specs.Steps.{receives_with};
@@ -192,11 +192,11 @@ impl Join<SeatView> for Receives {
 }
 
 /// A step that notes nothing, at which the seat learns of its counts.
-pub struct Stays<C> {
+pub struct StayStep<C> {
     of: PhantomData<C>,
 }
 
-impl<H: Told<Note = Noted>, C: Claiming> Play<Option<H>, SeatView> for Stays<C> {
+impl<H: Told<Note = Noted>, C: Claiming> Play<Option<H>, SeatView> for StayStep<C> {
     ghost use Rattle.pool_table.specs.Steps.{counts_one, stays};
 
     ghost then = { counts_one (stays C.layout) };
@@ -215,51 +215,51 @@ impl Rooted for Brand {
     ghost root = { no_root };
 }
 
-pub struct Retains<R> {
+pub struct RetainStep<R> {
     of: PhantomData<R>,
 }
 
-impl<H: Told<Note = Noted>, R: Rooted> Play<Option<H>, SeatView> for Retains<R> {
+impl<H: Told<Note = Noted>, R: Rooted> Play<Option<H>, SeatView> for RetainStep<R> {
     ghost use Rattle.pool_table.specs.Steps.{counts_one, retains};
 
     ghost then = { counts_one (retains R.root) };
 }
 
-pub struct Looks<R> {
+pub struct LookStep<R> {
     of: PhantomData<R>,
 }
 
-impl<H: Told<Note = Noted>, R: Rooted> Play<Option<H>, SeatView> for Looks<R> {
+impl<H: Told<Note = Noted>, R: Rooted> Play<Option<H>, SeatView> for LookStep<R> {
     ghost use Rattle.pool_table.specs.Steps.{counts_one, looks};
 
     ghost then = { counts_one (looks R.root) };
 }
 
-pub struct Releases<R> {
+pub struct ReleaseStep<R> {
     of: PhantomData<R>,
 }
 
-impl<H: Told<Note = Noted>, R: Rooted> Play<Option<H>, SeatView> for Releases<R> {
+impl<H: Told<Note = Noted>, R: Rooted> Play<Option<H>, SeatView> for ReleaseStep<R> {
     ghost use Rattle.pool_table.specs.Steps.{counts_one, releases};
 
     ghost then = { counts_one (releases R.root) };
 }
 
-pub struct Vacates<R> {
+pub struct VacateStep<R> {
     of: PhantomData<R>,
 }
 
-impl<H: Told<Note = Noted>, R: Rooted> Play<Option<H>, SeatView> for Vacates<R> {
+impl<H: Told<Note = Noted>, R: Rooted> Play<Option<H>, SeatView> for VacateStep<R> {
     ghost use Rattle.pool_table.specs.Steps.{counts_one, vacates};
 
     ghost then = { counts_one (vacates R.root) };
 }
 
-pub struct Births<R> {
+pub struct BirthStep<R> {
     of: PhantomData<R>,
 }
 
-impl<H: Told<Note = Noted>, R: Rooted> Play<Option<H>, SeatView> for Births<R> {
+impl<H: Told<Note = Noted>, R: Rooted> Play<Option<H>, SeatView> for BirthStep<R> {
     ghost use Rattle.pool_table.specs.Steps.{births, counts_one};
 
     ghost then = { counts_one (births R.root) };

@@ -6,7 +6,7 @@ ghost use Rattle.pool_table.specs.Letters.{first_letter};
 ghost use Rattle.pool_table.specs.Steps.{share_left, share_of, share_added, IsShare};
 ghost use Rattle.pool_table.specs.Seats.{view_of, IsSeatOf, IsOutside, HasView, SameSeat};
 
-use crate::rule::{Accepts, Blanks, Joins, Shares, Sharing};
+use crate::rule::{AcceptStep, BlankStep, JoinStep, ShareStep, Sharing};
 use crate::table::{PoolSeat, PoolTable};
 use crate::views::{Letter, SeatView};
 use atomic_table::Seat;
@@ -59,7 +59,7 @@ impl<H: Told<Note = Noted>> PoolTable<H> {
         ensures made { IsSeatOf self.now result }
         ensures empty { HasView result (blank (view_of seat.old).setting) }
     {
-        let other = self.table.shared.split_seat::<Blanks>(&mut seat.seat);
+        let other = self.table.shared.split_seat::<BlankStep>(&mut seat.seat);
         self.unnumbered(other, None)
     }
 
@@ -79,7 +79,7 @@ impl<H: Told<Note = Noted>> PoolTable<H> {
         ensures made { result.table_id ≡ seat.old.table_id }
         ensures share { result.me ≡ (share_of moves seat.old.me.0, []) }
     {
-        self.table.shared.split_seat::<Shares<M>>(seat)
+        self.table.shared.split_seat::<ShareStep<M>>(seat)
     }
 
     /// A new seat with so many of the seat's moves, and without notes and turns. A seat of another
@@ -111,7 +111,7 @@ impl<H: Told<Note = Noted>> PoolTable<H> {
         let (share, _letter) = share.into_parts();
         self.table
             .shared
-            .join_seat::<Accepts>(&mut seat.seat, share);
+            .join_seat::<AcceptStep>(&mut seat.seat, share);
     }
 
     /// The seat gets what the other one has. The other one is spent.
@@ -124,7 +124,9 @@ impl<H: Told<Note = Noted>> PoolTable<H> {
         ensures joined { HasView seat.new (joined (view_of seat.old) (view_of other)) }
     {
         let (other, letter) = other.into_parts();
-        self.table.shared.join_seat::<Joins>(&mut seat.seat, other);
+        self.table
+            .shared
+            .join_seat::<JoinStep>(&mut seat.seat, other);
         if seat.letter.is_none() {
             seat.letter = letter;
         }

@@ -22,8 +22,8 @@ ghost use Rattle.pool_table.specs.Steps.{claims, marks_claims};
 ghost use Rattle.pool_table.specs.Sections.{GotSection, FoundHeld, MayEnd, MayIdle};
 
 use crate::index::object_slot;
-use crate::rule::{Claiming, Claims, Dones, Idles, MarksClaims};
-use crate::table::{PoolSeat, PoolTable, Section, Slot};
+use crate::rule::{ClaimStep, Claiming, DoneStep, IdleStep, MarkStep};
+use crate::table::{HomeSlot, PoolSeat, PoolTable, Section};
 use crate::views::SeatView;
 use atomic_table::Seat;
 use pool_law::{Held, Named, Noted, Object};
@@ -37,7 +37,7 @@ impl<H: Told<Note = Noted>> PoolTable<H> {
         &self,
         seat: &mut Seat<Option<H>, SeatView>,
         object: Object,
-        slot: Slot,
+        slot: HomeSlot,
         mark: bool,
     ) -> u64
         requires named { (C.object ≡ object) × (C.layout ≡ self.now.layout) }
@@ -59,9 +59,11 @@ impl<H: Told<Note = Noted>> PoolTable<H> {
         if mark {
             self.table
                 .shared
-                .fetch_or::<MarksClaims<C>>(seat, slot.word, 1)
+                .fetch_or::<MarkStep<C>>(seat, slot.word, 1)
         } else {
-            self.table.shared.fetch_or::<Claims<C>>(seat, slot.word, 1)
+            self.table
+                .shared
+                .fetch_or::<ClaimStep<C>>(seat, slot.word, 1)
         }
     }
 
@@ -132,7 +134,7 @@ impl<H: Told<Note = Noted>> PoolTable<H> {
         let found = self
             .table
             .shared
-            .fetch_add::<Dones<N>>(&mut seat.seat, slot.word, 1);
+            .fetch_add::<DoneStep<N>>(&mut seat.seat, slot.word, 1);
         found / 2 + 1
     }
 
@@ -158,6 +160,6 @@ impl<H: Told<Note = Noted>> PoolTable<H> {
         let None = empty else { unreachable!() };
         self.table
             .shared
-            .fetch_sub::<Idles>(&mut seat.seat, slot.word, 1);
+            .fetch_sub::<IdleStep>(&mut seat.seat, slot.word, 1);
     }
 }

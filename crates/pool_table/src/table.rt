@@ -6,7 +6,7 @@ ghost use Rattle.pool_table.specs.Words.{listed_of, words_of};
 ghost use Rattle.pool_table.specs.Slots.{slots_of};
 ghost use Rattle.pool_table.specs.SeatFields.{IsSeatWith};
 ghost use Rattle.pool_table.specs.Firsts.{AreFirsts};
-ghost use Rattle.pool_table.specs.Sound.{IsShape};
+ghost use Rattle.pool_table.specs.Sound.{IsTableShape};
 
 use crate::firsts::Firsts;
 use crate::rule::{Opening, Rule};
@@ -35,7 +35,7 @@ pub struct PoolTable<H: Told<Note = Noted>> {
     ghost key: { table.shared.key.layout ≡ layout },
     ghost words: { table.shared.table_id.words ≡ words_of layout.shape },
     ghost slots: { table.shared.table_id.slots ≡ slots_of layout.shape },
-    ghost shape: { IsShape layout.shape },
+    ghost shape: { IsTableShape layout.shape },
     ghost places: { AreFirsts layout.shape firsts },
 }
 
@@ -80,7 +80,7 @@ impl<H: Told<Note = Noted>> PoolSeat<H> {
 
 /// Where an object's home value and its word lie.
 #[derive(Clone, Copy)]
-pub(crate) struct Slot {
+pub(crate) struct HomeSlot {
     pub(crate) home: usize,
     pub(crate) word: usize,
 }
@@ -90,5 +90,5 @@ pub(crate) struct Slot {
 pub struct Section<H: Told<Note = Noted>> {
     pub(crate) home: H,
     pub(crate) object: Object,
-    pub(crate) slot: Slot,
+    pub(crate) slot: HomeSlot,
 }

@@ -1,7 +1,7 @@
 #![tactic(auto)]
 //! A bounded queue of regions, first in, first out: one lane's cache of one class.
 
-pub mod cache;
+mod cache;
 mod told;
 
 pub use cache::Cache;

@@ -16,10 +16,9 @@ mod sweeps;
 mod two_lanes;
 
 use play_check::{Played, check_played};
-use pool_law::list::{CommandList, Items};
 use pool_law::{
-    Answered, Bytes, ChunkEnd, Did, LaneLog, Leak, Level, ListName, Note, Object, Place, RefDid,
-    RegionId, Reply, RootId, Run, Shape, Trace,
+    Answered, Bytes, ChunkEnd, CommandList, Did, Items, LaneLog, Leak, Level, ListName, Note,
+    Object, Place, RefDid, RegionId, Reply, RootId, Run, Shape, Trace,
 };
 use size_classes::DEFAULT_PAGE;
 use std::alloc::{AllocError, Global};

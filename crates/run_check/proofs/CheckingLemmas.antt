@@ -16,7 +16,7 @@ use Rattle.pool_law.specs.Legal.{HistoriesHold, AreCommands, IsLegal, logs_of}
 use Rattle.run_check.specs.Checking.{CountsRight, NotesRight, AnswersRight}
 use Rattle.pool_law.proofs.HistoryLemmas.{history_of-is}
 use Rattle.run_check.specs.declared.histories.Histories.{Histories}
-use Rattle.object_steps.specs.declared.told.Told.{Told}
+use Rattle.object_steps.specs.declared.told.PlaceTold.{PlaceTold}
 use Rattle.run_check.specs.Spotting.{notes_in}
 use Rattle.run_check.specs.Breaches.{Breaks}
 use Rattle.run_check.specs.declared.breach.Breach.{Breach}
@@ -82,11 +82,11 @@ legal-found run (Some breach) legal broken = broken
 
 -- what is told by the histories is told of the logs
 pub told-are : (shape : Shape) (read logs : List LaneLog) (m : Histories) → read ≡ logs →
-    (pushed told : List (Vec Told Global)) → told ≡ pushed → AreHistories shape (notes_in logs) m →
+    (pushed told : List (Vec PlaceTold Global)) → told ≡ pushed → AreHistories shape (notes_in logs) m →
     ((s : Shape) → AreHistories s (notes_in read) m → AreTold (notes_in read) pushed read) →
     AreTold (notes_in logs) told logs
 told-are shape read logs m same pushed told is are tells =
-    subst (λ (ts : List (Vec Told Global)). AreTold (notes_in logs) ts logs) (sym is)
+    subst (λ (ts : List (Vec PlaceTold Global)). AreTold (notes_in logs) ts logs) (sym is)
     (subst
     (λ (ls : List LaneLog). ((s : Shape) → AreHistories s (notes_in ls) m → AreTold (notes_in ls) pushed ls)) same
     tells shape are)

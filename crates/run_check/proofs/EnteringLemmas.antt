@@ -12,9 +12,9 @@ use Rattle.pool_law.specs.declared.run.Shape.{Shape}
 use Rattle.pool_law.specs.Same.{same_object}
 use Rattle.pool_law.specs.Roots.{RootPlace, new_place, place_step}
 use Rattle.pool_law.specs.Histories.{after, place_after}
-use Rattle.pool_law.specs.Logs.{Logs, History, Entry, dids, of_lane, own, own_note, numbered, history_of, present_in, entry_of}
+use Rattle.pool_law.specs.Logs.{Logs, History, ToldNote, dids, of_lane, own, own_note, numbered, history_of, present_in, entry_of}
 use Rattle.pool_law.proofs.HistoryLemmas.{history_of-is}
-use Rattle.object_steps.specs.declared.told.Told.{Told}
+use Rattle.object_steps.specs.declared.told.PlaceTold.{PlaceTold}
 use Rattle.run_check.specs.declared.histories.Histories.{Histories}
 use Rattle.lane_reader.specs.Reading.{untold, entry, entries_in}
 use Rattle.object_steps.specs.Telling.{told_by, told_of_each}
@@ -106,7 +106,7 @@ after-front {S = S} step s (d ∷ ds) (suc k) e = go (step s d) e (λ t f. after
 
 module _ (shape : Shape) (logs : Logs) (m : Histories) (are : AreHistories shape logs m) where
   -- what is told of a note at a root place
-  pub told-root : (place number : ℕ) (did : Did) → IsNotedIn logs (At (Root place) number did) → (told : Told) →
+  pub told-root : (place number : ℕ) (did : Did) → IsNotedIn logs (At (Root place) number did) → (told : PlaceTold) →
       told ≡ unwrap_or (slice_get (told_in m place) (number - 1)) untold →
       entry (At (Root place) number did) told ≡ entry_of logs (At (Root place) number did)
   told-root place number did noted told is =
@@ -124,8 +124,8 @@ module _ (shape : Shape) (logs : Logs) (m : Histories) (are : AreHistories shape
       before.1 in
       let what : told ≡ told_by did before.0.present =
       is
-      ∙ ap (λ (ts : List Told). unwrap_or (slice_get ts (number - 1)) untold) (are.told place)
-      ∙ ap (λ (o : Option Told). unwrap_or o untold) found in
+      ∙ ap (λ (ts : List PlaceTold). unwrap_or (slice_get ts (number - 1)) untold) (are.told place)
+      ∙ ap (λ (o : Option PlaceTold). unwrap_or o untold) found in
       let present : before.0.present ≡ present_in
       (place_after place (take (number - 1) (dids (history_of (Root place) logs)))) =
       ap present_in (sym before.1)
@@ -134,31 +134,32 @@ module _ (shape : Shape) (logs : Logs) (m : Histories) (are : AreHistories shape
       ap (entry (At (Root place) number did)) (what ∙ ap (told_by did) present)
 
 -- the notes of a lane, one further
-pub entries-push : (ns : List Note) (ts : List Told) (n : Note) (t : Told) → length ts ≡ length ns →
+pub entries-push : (ns : List Note) (ts : List PlaceTold) (n : Note) (t : PlaceTold) → length ts ≡ length ns →
     entries_in (ns ++ n ∷ []) (ts ++ t ∷ []) ≡ entries_in ns ts ++ entry n t ∷ []
 entries-push [] [] n t e = refl
 entries-push [] (x ∷ ts) n t e = absurd (omega (arith, e))
 entries-push (m ∷ ns) [] n t e = absurd (omega (arith, e))
 entries-push (m ∷ ns) (x ∷ ts) n t e =
-    ap (λ (es : List Entry). entry m x ∷ es) (entries-push ns ts n t (omega (arith, e)))
+    ap (λ (es : List ToldNote). entry m x ∷ es) (entries-push ns ts n t (omega (arith, e)))
 
 -- ---- What is told of the notes of each lane.
 
-pub told-length : (logs : Logs) (told : List (Vec Told Global)) (lanes : List LaneLog) → AreTold logs told lanes →
+pub told-length : (logs : Logs) (told : List (Vec PlaceTold Global)) (lanes : List LaneLog) → AreTold logs told lanes →
     length told ≡ length lanes
 told-length logs [] [] are = refl
 told-length logs [] (l ∷ lanes) are = absurd are
 told-length logs (t ∷ told) [] are = absurd are
 told-length logs (t ∷ told) (l ∷ lanes) are = ap suc (told-length logs told lanes are.1)
 
-pub told-get : (logs : Logs) (told : List (Vec Told Global)) (lanes : List LaneLog) (k : ℕ) (t : Vec Told Global)
+pub told-get : (logs : Logs) (told : List (Vec PlaceTold Global)) (lanes : List LaneLog) (k : ℕ) (t : Vec PlaceTold
+    Global)
     (l : LaneLog) → AreTold logs told lanes → k < length lanes → t ≡ get_or told k t → l ≡ get_or lanes k l →
     IsToldOf logs t l
 told-get logs [] [] k t l are there is at = absurd (omega (arith, there))
 told-get logs [] (y ∷ lanes) k t l are there is at = absurd are
 told-get logs (x ∷ told) [] k t l are there is at = absurd are
 told-get logs (x ∷ told) (y ∷ lanes) zero t l are there is at =
-    subst (λ (u : Vec Told Global). IsToldOf logs u l) (sym is)
+    subst (λ (u : Vec PlaceTold Global). IsToldOf logs u l) (sym is)
     (subst (λ (m : LaneLog). IsToldOf logs x m) (sym at) are.0)
 told-get logs (x ∷ told) (y ∷ lanes) (suc k) t l are there is at =
     told-get logs told lanes k t l are.1 (omega (arith, there)) is at

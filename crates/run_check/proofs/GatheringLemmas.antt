@@ -3,16 +3,16 @@ use Rattle.std.proofs.Common.{◌≡◌, ℕ, zero, suc, ◌<◌, ◌≤◌, Lis
 use Rattle.std.specs.Prelude.{◌⊎◌}
 use denote.Ref.{Bor}
 use Rattle.pool_law.specs.declared.note.Did.{Did}
-use Rattle.run_check.specs.declared.gathering.Spot.{Spot}
+use Rattle.run_check.specs.declared.gathering.HistoryNote.{HistoryNote}
 use Rattle.run_check.specs.Gathering.{spots_behind, left_of, HasNext, IsStuck}
 
-pub left-at : (left : List (Bor (List Spot))) (lane : ℕ) (spots : Bor (List Spot)) → lane < length left →
+pub left-at : (left : List (Bor (List HistoryNote))) (lane : ℕ) (spots : Bor (List HistoryNote)) → lane < length left →
     spots ≡ get_or left lane spots → left_of left lane ≡ spots_behind spots.now
 left-at [] lane spots there is = absurd (omega (arith, there))
-left-at (x ∷ left) zero spots there is = ap (λ (s : Bor (List Spot)). spots_behind s.now) (sym is)
+left-at (x ∷ left) zero spots there is = ap (λ (s : Bor (List HistoryNote)). spots_behind s.now) (sym is)
 left-at (x ∷ left) (suc lane) spots there is = left-at left lane spots (omega (arith, there)) is
 
-pub left-past : (left : List (Bor (List Spot))) (lane : ℕ) → length left ≤ lane → left_of left lane ≡ []
+pub left-past : (left : List (Bor (List HistoryNote))) (lane : ℕ) → length left ≤ lane → left_of left lane ≡ []
 left-past [] lane past = refl
 left-past (x ∷ left) zero past = absurd (omega (arith, past))
 left-past (x ∷ left) (suc lane) past = left-past left lane (omega (arith, past))
@@ -21,7 +21,7 @@ below-or : (a b : ℕ) → (a < b) ⊎ (b ≤ a)
 below-or a b = grind arith
 
 -- where no lane that is there has the number, none has
-pub none-has : (left : List (Bor (List Spot))) (number n : ℕ) →
+pub none-has : (left : List (Bor (List HistoryNote))) (number n : ℕ) →
     ((k : ℕ) → k < n → HasNext number (left_of left k) → ⊥) → length left ≤ n → IsStuck number (left_of left)
 none-has left number n below all lane has =
     ⊎_elim

@@ -6,7 +6,7 @@ use Rattle.std.proofs.lemmas.List.{map-append, take_more}
 use Rattle.std.proofs.lemmas.List.Elements.{All-nil, All-cons, All-head, All-tail, All-same, All-push, All-weaker}
 use Rattle.pool_law.specs.declared.note.Did.{Did}
 use denote.Ref.{Bor}
-use Rattle.run_check.specs.declared.gathering.Spot.{Spot}
+use Rattle.run_check.specs.declared.gathering.HistoryNote.{HistoryNote}
 use Rattle.run_check.specs.Gathering.{spot_data, spots_behind, left_of}
 use Rattle.run_check.proofs.GatheringLemmas.{left-at, left-past}
 use Rattle.run_check.proofs.LaneLemmas.{below-or}
@@ -29,12 +29,12 @@ abbrev pub Past : ℕ → List (ℕ × Did) → Type 0
 Past n notes = All (λ x. n < x.0) notes
 
 -- one more note
-module _ (number old new : ℕ) (spots : List Spot) (i : ℕ) (spot : Spot) (there : i < length spots)
+module _ (number old new : ℕ) (spots : List HistoryNote) (i : ℕ) (spot : HistoryNote) (there : i < length spots)
     (is : spot ≡ get_or spots i spot) (lesser : new ≤ old) (this : new ≤ spot.number)
     (one : (new ≡ old) ⊎ (new ≡ spot.number)) where
   step : spots_behind (take (i + 1) spots) ≡ spots_behind (take i spots) ++ spot_data spot ∷ []
   step =
-      ap spots_behind (take_more spots i spot there ∙ ap (λ (s : Spot). take i spots ++ s ∷ []) (sym is))
+      ap spots_behind (take_more spots i spot there ∙ ap (λ (s : HistoryNote). take i spots ++ s ∷ []) (sym is))
       ∙ map-append spot_data (take i spots) (spot ∷ [])
 
   pub least-more : FromOn old (spots_behind (take i spots)) → FromOn new (spots_behind (take (i + 1) spots))
@@ -64,7 +64,7 @@ module _ (number old new : ℕ) (spots : List Spot) (i : ℕ) (spot : Spot) (the
       one
 
 -- one more lane
-module _ (number old new : ℕ) (left : List (Bor (List Spot))) (i : ℕ) (spots : Bor (List Spot))
+module _ (number old new : ℕ) (left : List (Bor (List HistoryNote))) (i : ℕ) (spots : Bor (List HistoryNote))
     (there : i < length left) (is : spots ≡ get_or left i spots) (lesser : new ≤ old)
     (least : FromOn new (spots_behind spots.now))
     (this : new < old → Past new (spots_behind spots.now) → ⊥) where
@@ -98,7 +98,7 @@ module _ (number old new : ℕ) (left : List (Bor (List Spot))) (i : ℕ) (spots
       (below-or new old)
 
 -- all lanes
-pub all-lanes : (least : ℕ) (left : List (Bor (List Spot))) (i : ℕ) → length left ≤ i →
+pub all-lanes : (least : ℕ) (left : List (Bor (List HistoryNote))) (i : ℕ) → length left ≤ i →
     ((lane : ℕ) → lane < i → FromOn least (left_of left lane)) → (lane : ℕ) → FromOn least (left_of left lane)
 all-lanes least left i all below lane =
     ⊎_elim

@@ -4,7 +4,7 @@ use Rattle.std.specs.Prelude.{◌==◌, if◌then◌else◌}
 use denote.Ref.{Bor}
 use Rattle.pool_law.specs.declared.note.Did.{Did}
 use Rattle.pool_law.specs.Logs.{History, numbered}
-use Rattle.run_check.specs.declared.gathering.Spot.{Spot}
+use Rattle.run_check.specs.declared.gathering.HistoryNote.{HistoryNote}
 use Rattle.run_check.specs.declared.merging.Done.{Done}
 use Rattle.run_check.specs.Merging.{dones_in}
 use Rattle.run_check.specs.Gathering.{spot_data, spots_behind, left_of, AreNumbered, HasNext, IsStuck}
@@ -23,7 +23,8 @@ next-next : (a b : ℕ) → (suc a == suc b) ≡ (a == b)
 next-next a b = grind (arith, nat_tests)
 
 -- a lane has one note less
-left-set : (left : List (Bor (List Spot))) (lane : ℕ) (new : Bor (List Spot)) → lane < length left → (l : ℕ) →
+left-set : (left : List (Bor (List HistoryNote))) (lane : ℕ) (new : Bor (List HistoryNote)) → lane < length left → (l :
+    ℕ) →
     left_of (set left lane new) l ≡ without_first lane (spots_behind new.now) (left_of left) l
 left-set [] lane new there l = absurd (omega (arith, there))
 left-set (x ∷ left) zero new there zero = refl
@@ -36,25 +37,26 @@ left-set (x ∷ left) (suc lane) new there (suc l) =
     ∙ sym (ap (λ (b : Bool). if b then spots_behind new.now else left_of left l) (next-next lane l))
 
 -- whether a lane has a note
-pub no-spots : (xs : List Spot) → (length xs == 0) ≡ true → spots_behind xs ≡ []
+pub no-spots : (xs : List HistoryNote) → (length xs == 0) ≡ true → spots_behind xs ≡ []
 no-spots [] e = refl
 no-spots (x ∷ xs) e = absurd (omega (arith, eqb-true (length (x ∷ xs)) 0 e))
 
-pub some-spots : (xs : List Spot) → (length xs == 0) ≡ false → spots_behind xs ≡ [] → ⊥
+pub some-spots : (xs : List HistoryNote) → (length xs == 0) ≡ false → spots_behind xs ≡ [] → ⊥
 some-spots [] e none = cc e
 some-spots (x ∷ xs) e none = cc none
 
 -- how many notes are left
-abbrev pub left_total : List (Bor (List Spot)) → ℕ
+abbrev pub left_total : List (Bor (List HistoryNote)) → ℕ
 left_total [] = 0
 left_total (x ∷ left) = length x.now + left_total left
 
-pub left_total-set : (left : List (Bor (List Spot))) (lane : ℕ) (spots new : Bor (List Spot)) → lane < length left →
+pub left_total-set : (left : List (Bor (List HistoryNote))) (lane : ℕ) (spots new : Bor (List HistoryNote)) → lane <
+    length left →
     spots ≡ get_or left lane spots → length new.now < length spots.now →
     left_total (set left lane new) < left_total left
 left_total-set [] lane spots new there is less = absurd (omega (arith, there))
 left_total-set (x ∷ left) zero spots new there is less =
-    let same : length spots.now ≡ length x.now = ap (λ (s : Bor (List Spot)). length s.now) is in
+    let same : length spots.now ≡ length x.now = ap (λ (s : Bor (List HistoryNote)). length s.now) is in
     omega (arith, same, less)
 left_total-set (x ∷ left) (suc lane) spots new there is less =
     omega (arith, left_total-set left lane spots new (omega (arith, there)) is less)
@@ -99,14 +101,15 @@ dones-pushed : (old new : List Done) (done : Done) → new ≡ old ++ done ∷ [
     dones_in new ≡ dones_in old ++ (done.lane, done.did.now) ∷ []
 dones-pushed old new done is = ap dones_in is ∙ map-append (λ (d : Done). (d.lane, d.did.now)) old (done ∷ [])
 
-shorter : (spots others : List Spot) (first : Spot) → spots_behind spots ≡ spot_data first ∷ spots_behind others →
+shorter : (spots others : List HistoryNote) (first : HistoryNote) → spots_behind spots ≡ spot_data first ∷ spots_behind
+    others →
     length others < length spots
 shorter spots others first is =
     let all : length (spots_behind spots) ≡ suc (length (spots_behind others)) = ap length is in
     omega (arith, all, length-map spots spot_data, length-map others spot_data)
 
 -- the first note of the lane that has the number
-first-numbered : (left : ℕ → List (ℕ × Did)) (lane number : ℕ) (spots others : List Spot) (first : Spot) →
+first-numbered : (left : ℕ → List (ℕ × Did)) (lane number : ℕ) (spots others : List HistoryNote) (first : HistoryNote) →
     HasNext number (left lane) → left lane ≡ spots_behind spots →
     spots_behind spots ≡ spot_data first ∷ spots_behind others →
     left lane ≡ (number, first.did.now) ∷ spots_behind others
@@ -114,17 +117,17 @@ first-numbered left lane number spots others first has mine is =
     let same : first.number ≡ number = subst (λ (xs : List (ℕ × Did)). HasNext number xs) (mine ∙ is) has in
     mine ∙ is ∙ ap (λ (n : ℕ). (n, first.did.now) ∷ spots_behind others) same
 
-pub none-first : (left : List (Bor (List Spot))) (lane number : ℕ) (spots : Bor (List Spot)) →
+pub none-first : (left : List (Bor (List HistoryNote))) (lane number : ℕ) (spots : Bor (List HistoryNote)) →
     HasNext number (left_of left lane) → lane < length left → spots ≡ get_or left lane spots →
     spots_behind spots.now ≡ [] → ⊥
 none-first left lane number spots has there mine none =
     subst (λ (xs : List (ℕ × Did)). HasNext number xs) (left-at left lane spots there mine ∙ none) has
 
 -- the part of a list behind its first
-pub part-is : (xs : List Spot) → take (length xs - 1) (drop 1 xs) ≡ drop 1 xs
+pub part-is : (xs : List HistoryNote) → take (length xs - 1) (drop 1 xs) ≡ drop 1 xs
 part-is xs = take_all (length xs - 1) (drop 1 xs) (omega (arith, length-drop 1 xs))
 
-pub part-shorter : (spots : List Spot) (first : Spot) →
+pub part-shorter : (spots : List HistoryNote) (first : HistoryNote) →
     spots_behind spots ≡ spot_data first ∷ spots_behind (drop 1 spots) →
     length (take (length spots - 1) (drop 1 spots)) < length spots
 part-shorter spots first is =
@@ -132,8 +135,8 @@ part-shorter spots first is =
     omega (arith, same, shorter spots (drop 1 spots) first is)
 
 -- the history with the first note of the lane that has the next number
-pub so-far-next : (all : ℕ → List (ℕ × Did)) (left : List (Bor (List Spot))) (lane number next : ℕ)
-    (spots new : Bor (List Spot)) (first : Spot) (old pushed : List Done) (done : Done) →
+pub so-far-next : (all : ℕ → List (ℕ × Did)) (left : List (Bor (List HistoryNote))) (lane number next : ℕ)
+    (spots new : Bor (List HistoryNote)) (first : HistoryNote) (old pushed : List Done) (done : Done) →
     SoFar all (left_of left) (dones_in old) number → HasNext number (left_of left lane) → lane < length left →
     spots ≡ get_or left lane spots → spots_behind spots.now ≡ spot_data first ∷ spots_behind (drop 1 spots.now) →
     new.now ≡ drop 1 spots.now → pushed ≡ old ++ done ∷ [] → done.lane ≡ lane → done.did.now ≡ first.did.now →
@@ -147,7 +150,7 @@ so-far-next all left lane number next spots new first old pushed done s has ther
     (spots_behind (drop 1 spots.now)) s first_is
     (λ l.
     left-set left lane new there l
-    ∙ ap (λ (xs : List Spot). without_first lane (spots_behind xs) (left_of left) l) part) in
+    ∙ ap (λ (xs : List HistoryNote). without_first lane (spots_behind xs) (left_of left) l) part) in
     let history : dones_in pushed ≡ dones_in old ++ (lane, first.did.now) ∷ [] =
     dones-pushed old pushed done push ∙ (λ i. dones_in old ++ (of i, did i) ∷ []) in
     subst (λ (h : History). SoFar all (left_of (set left lane new)) h next) (sym history)

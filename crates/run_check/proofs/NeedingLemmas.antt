@@ -5,7 +5,7 @@ use Rattle.pool_law.specs.declared.note.Note.TheVariants.{Ref}
 use Rattle.pool_law.specs.declared.note.RefDid.TheVariants.{Look}
 use Rattle.pool_law.proofs.SameLemmas.{same_root-is}
 use Rattle.pool_law.specs.declared.id.RootId.{RootId}
-use Rattle.pool_law.specs.Logs.{Entry}
+use Rattle.pool_law.specs.Logs.{ToldNote}
 use Rattle.pool_law.specs.Counts.{CountsHold, LookHolds, is_retain, is_release}
 use Rattle.pool_law.specs.Legal.{LookAt, LooksHold, one_if}
 use Rattle.run_check.specs.declared.counts.Counts.{Counts}
@@ -15,32 +15,32 @@ use Rattle.run_check.specs.Tallying.{sums_in}
 use Rattle.run_check.specs.Needing.{NeedsHold}
 use Rattle.run_check.proofs.KeyLemmas.{same_root-self}
 
-pub counts-front : (root : RootId) (k : ℕ) (e : Entry) (es : List Entry) → CountsHold root k (e ∷ es) →
+pub counts-front : (root : RootId) (k : ℕ) (e : ToldNote) (es : List ToldNote) → CountsHold root k (e ∷ es) →
     NeedsHold root k e × CountsHold root (count_after root k e.note) es
 counts-front root k e es h = ((h.0, h.1.0), h.1.1)
 
-pub counts-back : (root : RootId) (k : ℕ) (e : Entry) (es : List Entry) → NeedsHold root k e →
+pub counts-back : (root : RootId) (k : ℕ) (e : ToldNote) (es : List ToldNote) → NeedsHold root k e →
     CountsHold root (count_after root k e.note) es → CountsHold root k (e ∷ es)
 counts-back root k e es needs rest = (needs.0, (needs.1, rest))
 
 -- what is asked of an entry, and of a log, by a lane's count of each root
-abbrev pub AllNeeds : (RootId → ℕ) → Entry → Type 0
+abbrev pub AllNeeds : (RootId → ℕ) → ToldNote → Type 0
 AllNeeds counts e = (root : RootId) → NeedsHold root (counts root) e
 
-abbrev pub AllCounts : (RootId → ℕ) → List Entry → Type 0
+abbrev pub AllCounts : (RootId → ℕ) → List ToldNote → Type 0
 AllCounts counts es = (root : RootId) → CountsHold root (counts root) es
 
-abbrev pub counts_after : (RootId → ℕ) → Entry → RootId → ℕ
+abbrev pub counts_after : (RootId → ℕ) → ToldNote → RootId → ℕ
 counts_after counts e root = count_after root (counts root) e.note
 
-pub all-counts-front : (counts : RootId → ℕ) (e : Entry) (es : List Entry) → AllCounts counts (e ∷ es) →
+pub all-counts-front : (counts : RootId → ℕ) (e : ToldNote) (es : List ToldNote) → AllCounts counts (e ∷ es) →
     AllNeeds counts e × AllCounts (counts_after counts e) es
 all-counts-front counts e es h = (
   λ root. (counts-front root (counts root) e es (h root)).0,
   λ root. (counts-front root (counts root) e es (h root)).1,
 )
 
-pub all-counts-back : (counts : RootId → ℕ) (e : Entry) (es : List Entry) → AllNeeds counts e →
+pub all-counts-back : (counts : RootId → ℕ) (e : ToldNote) (es : List ToldNote) → AllNeeds counts e →
     AllCounts (counts_after counts e) es → AllCounts counts (e ∷ es)
 all-counts-back counts e es needs rest = λ root. counts-back root (counts root) e es (needs root) (rest root)
 
@@ -51,14 +51,14 @@ pub record Passed : Type 0 where
   pub count : ℕ
 
 -- these after an entry
-abbrev pub passed_on : RootId → Passed → Entry → Passed
+abbrev pub passed_on : RootId → Passed → ToldNote → Passed
 passed_on root p e = record {
   retains = p.retains + one_if (is_retain root e.note);
   releases = p.releases + one_if (is_release root e.note);
   count = count_after root p.count e.note;
 }
 
-abbrev pub all_passed_on : (RootId → Passed) → Entry → RootId → Passed
+abbrev pub all_passed_on : (RootId → Passed) → ToldNote → RootId → Passed
 all_passed_on p e root = passed_on root (p root) e
 
 -- nothing passed, and what passed by what the program keeps
@@ -74,19 +74,19 @@ passed own counts root = record {
 
 -- what is asked of an entry, and of a log, by what passed of each root
 module _ (others : RootId → ℕ) where
-  abbrev pub AllLooks : (RootId → Passed) → Entry → Type 0
+  abbrev pub AllLooks : (RootId → Passed) → ToldNote → Type 0
   AllLooks p e =
       (root : RootId) → LookAt root (p root).retains (p root).releases (p root).count (others root) e.note
 
-  abbrev pub AllLooked : (RootId → Passed) → List Entry → Type 0
+  abbrev pub AllLooked : (RootId → Passed) → List ToldNote → Type 0
   AllLooked p es =
       (root : RootId) → LooksHold root (others root) (p root).retains (p root).releases (p root).count es
 
-  pub all-looked-front : (p : RootId → Passed) (e : Entry) (es : List Entry) → AllLooked p (e ∷ es) →
+  pub all-looked-front : (p : RootId → Passed) (e : ToldNote) (es : List ToldNote) → AllLooked p (e ∷ es) →
       AllLooks p e × AllLooked (all_passed_on p e) es
   all-looked-front p e es h = (λ root. (h root).0, λ root. (h root).1)
 
-  pub all-looked-back : (p : RootId → Passed) (e : Entry) (es : List Entry) → AllLooks p e →
+  pub all-looked-back : (p : RootId → Passed) (e : ToldNote) (es : List ToldNote) → AllLooks p e →
       AllLooked (all_passed_on p e) es → AllLooked p (e ∷ es)
   all-looked-back p e es asks rest = λ root. (asks root, rest root)
 

@@ -19,7 +19,7 @@ use Rattle.pool_law.specs.declared.report.ChunkEnd.{ChunkEnd}
 use Rattle.pool_law.specs.Legal.{ends_of, arena_ends, ends_from}
 use Rattle.pool_law.proofs.HistoryLemmas.{append-nil, own-append, history_of-is}
 use Rattle.pool_law.proofs.SameLemmas.{same_object-is}
-use Rattle.object_steps.specs.declared.told.Told.{Told}
+use Rattle.object_steps.specs.declared.told.PlaceTold.{PlaceTold}
 use Rattle.run_check.specs.declared.histories.ObjectHistory.{ObjectHistory}
 use Rattle.run_check.specs.declared.histories.BrokenAt.{BrokenAt}
 use Rattle.run_check.specs.declared.histories.Histories.{Histories}
@@ -99,7 +99,7 @@ mail-object_history shape logs (Mail sender receiver) object_history none held d
 mail-object_history shape logs _ object_history none held dones told = absurd (cc none)
 
 -- what is told of a root place's history, where it is accepted
-pub tells-root : (shape : Shape) (place : ℕ) (ds : List Did) (told : Option (Vec Told Global)) →
+pub tells-root : (shape : Shape) (place : ℕ) (ds : List Did) (told : Option (Vec PlaceTold Global)) →
     option_map (λ t. t.items) told ≡ option_map (λ _. told_of_each place new_place ds) (place_after place ds) →
     TellsOf shape (Root place) ds told
 tells-root shape place ds None e = go (place_after place ds) e

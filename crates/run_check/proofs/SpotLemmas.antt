@@ -14,7 +14,7 @@ use Rattle.pool_law.specs.declared.note.Note.TheVariants.{At}
 use Rattle.pool_law.specs.Logs.{own, own_note}
 use Rattle.pool_law.proofs.HistoryLemmas.{append-nil}
 use Rattle.pool_law.proofs.SameLemmas.{same_object-is}
-use Rattle.run_check.specs.declared.gathering.Spot.{Spot}
+use Rattle.run_check.specs.declared.gathering.HistoryNote.{HistoryNote}
 use Rattle.run_check.specs.declared.spots.Spots.{Spots}
 use Rattle.run_check.specs.Counting.{key_cmp}
 use Rattle.run_check.specs.Keying.{object_key}
@@ -23,9 +23,10 @@ use Rattle.run_check.specs.Spotting.{spots_in, spots_at, notes_in, laned, AreSpo
 use Rattle.run_check.proofs.KeyLemmas.{is_at-object, same-object-swap}
 
 abbrev pub Found : Type 0
-Found = ℕ × ℕ × ℕ → Option (Vec Spot Global)
+Found = ℕ × ℕ × ℕ → Option (Vec HistoryNote Global)
 
-pub spots-pushed : (old new : List Spot) (spot : Spot) (before : List (ℕ × Did)) → spots_behind old ≡ before →
+pub spots-pushed : (old new : List HistoryNote) (spot : HistoryNote) (before : List (ℕ × Did)) → spots_behind old ≡
+    before →
     new ≡ old ++ spot ∷ [] → spots_behind new ≡ before ++ spot_data spot ∷ []
 spots-pushed old new spot before was is =
     ap spots_behind is
@@ -33,7 +34,8 @@ spots-pushed old new spot before was is =
     ∙ ap (λ (xs : List (ℕ × Did)). xs ++ spot_data spot ∷ []) was
 
 -- a list of notes is taken out, and comes back with one more
-module _ (object other : Object) (old mid new : Found) (before : List (ℕ × Did)) (spots : Vec Spot Global) (spot : Spot)
+module _ (object other : Object) (old mid new : Found) (before : List (ℕ × Did)) (spots : Vec HistoryNote Global)
+    (spot : HistoryNote)
     (key : ℕ × ℕ × ℕ) (at_key : key ≡ object_key object) where
   pub put-spot :
       spots_behind spots.items ≡ before ++ spot_data spot ∷ [] →
@@ -52,7 +54,8 @@ module _ (object other : Object) (old mid new : Found) (before : List (ℕ × Di
           back (object_key other)
           ∙ ap (λ (k : ℕ × ℕ × ℕ). if is_at (key_cmp k) (object_key other) then Some spots else mid (object_key other))
           at_key
-          ∙ ap (λ (m : Option (Vec Spot Global)). if is_at (key_cmp (object_key object)) (object_key other) then Some
+          ∙ ap (λ (m : Option (Vec HistoryNote Global)). if is_at (key_cmp (object_key object)) (object_key other) then
+          Some
           spots else m)
           (out (object_key other))
           ∙ ap (λ (t : Bool). if t then Some spots else (if t then None else old (object_key other)))
@@ -94,10 +97,10 @@ laned-are (s ∷ lanes) (l ∷ logs) are object zero = are.0 object
 laned-are (s ∷ lanes) (l ∷ logs) are object (suc lane) = laned-are lanes logs are.1 object lane
 
 -- what a lane has at an object, from behind a reference
-abbrev pub IsAt : Object → Bor (List Spot) → Spots → Type 0
+abbrev pub IsAt : Object → Bor (List HistoryNote) → Spots → Type 0
 IsAt object left spots = spots_behind left.now ≡ spots_at spots object
 
-pub left-are : (object : Object) (left : List (Bor (List Spot))) (lanes : List Spots) →
+pub left-are : (object : Object) (left : List (Bor (List HistoryNote))) (lanes : List Spots) →
     AllZip (IsAt object) left lanes → (lane : ℕ) → left_of left lane ≡ laned lanes object lane
 left-are object [] [] are lane = refl
 left-are object [] (s ∷ lanes) are lane = absurd are

@@ -13,7 +13,7 @@ use Rattle.pool_law.specs.declared.note.RefDid.{RefDid}
 use Rattle.pool_law.specs.declared.note.RefDid.TheVariants.{Born, Retain, Kept, Ended, Vacated, Look}
 use Rattle.pool_law.specs.declared.run.LaneLog.{LaneLog}
 use Rattle.pool_law.specs.Same.{same_root}
-use Rattle.pool_law.specs.Logs.{Entry}
+use Rattle.pool_law.specs.Logs.{ToldNote}
 use Rattle.pool_law.specs.Counts.{count_in, count_over, is_birth, is_born, is_retain, is_release, ends_root}
 use Rattle.pool_law.specs.Legal.{one_if, others_retains}
 use Rattle.pool_law.proofs.SameLemmas.{same_root-is}
@@ -84,7 +84,7 @@ pub none-plus : (a : Sums) → plus no_sums a ≡ a
 none-plus a = same-sums (omega arith) (omega arith) (omega arith) (omega arith) (omega arith)
 
 -- what the law counts of a root, in a log and in all
-abbrev pub counted : RootId → List Entry → Sums
+abbrev pub counted : RootId → List ToldNote → Sums
 counted root es = record {
   births = count_in (is_birth root) es;
   borns = count_in (is_born root) es;
@@ -93,7 +93,7 @@ counted root es = record {
   ends = count_in (ends_root root) es;
 }
 
-abbrev pub counted_over : RootId → List (List Entry) → Sums
+abbrev pub counted_over : RootId → List (List ToldNote) → Sums
 counted_over root logs = record {
   births = count_over (is_birth root) logs;
   borns = count_over (is_born root) logs;
@@ -102,8 +102,8 @@ counted_over root logs = record {
   ends = count_over (ends_root root) logs;
 }
 
-module _ (g : Note → Entry) (bare : (n : Note) → (g n).note ≡ n) (root : RootId) where
-  counted-step : (test : Note → Bool) (k : ℕ) (n : Note) (es : List Entry) →
+module _ (g : Note → ToldNote) (bare : (n : Note) → (g n).note ≡ n) (root : RootId) where
+  counted-step : (test : Note → Bool) (k : ℕ) (n : Note) (es : List ToldNote) →
       k + one_if (test n) + count_in test es ≡ k + count_in test (g n ∷ es)
   counted-step test k n es =
       let same : (if test (g n).note then 1 else 0) ≡ one_if (test n) = ap (λ (m : Note). one_if (test m)) (bare n) in

@@ -5,7 +5,7 @@ use Rattle.std.specs.List.{AllZip, list_any}
 use Rattle.pool_law.specs.declared.id.RootId.{RootId}
 use Rattle.pool_law.specs.declared.note.Note.{Note}
 use Rattle.pool_law.specs.declared.run.LaneLog.{LaneLog}
-use Rattle.pool_law.specs.Logs.{Logs, Entry, of_lane}
+use Rattle.pool_law.specs.Logs.{Logs, ToldNote, of_lane}
 use Rattle.pool_law.specs.Counts.{count_in, count_over, is_birth, TotalHolds}
 use Rattle.pool_law.specs.Legal.{one_if}
 use Rattle.run_check.specs.declared.tally.Sums.{Sums}
@@ -17,7 +17,8 @@ use Rattle.run_check.proofs.TallyLemmas.{counted_over, totals-counted}
 some-part : (a b : ℕ) → 0 < a + b → (0 < a) ⊎ (0 < b)
 some-part a b h = grind arith
 
-module _ (g : Note → Entry) (bare : (n : Note) → (g n).note ≡ n) (test : RootId → Note → Bool) (Right : RootId → Type 0)
+module _ (g : Note → ToldNote) (bare : (n : Note) → (g n).note ≡ n) (test : RootId → Note → Bool) (Right : RootId →
+    Type 0)
   where
     first-counted : (root : RootId) (n : Note) (ns : List Note) →
         count_in (test root) (map g (n ∷ ns)) ≡ one_if (test root n) + count_in (test root) (map g ns)
@@ -77,7 +78,7 @@ module _ (g : Note → Entry) (bare : (n : Note) → (g n).note ≡ n) (test : R
         0 < count_over (test root) (map (map g) logs)
     any-over root logs k any = some-over root logs k (any-counted root (of_lane logs k) any)
 
-module _ (g : Note → Entry) (bare : (n : Note) → (g n).note ≡ n) (tallies : List Tally) where
+module _ (g : Note → ToldNote) (bare : (n : Note) → (g n).note ≡ n) (tallies : List Tally) where
   module _ (root : RootId) (logs : List LaneLog) (are : AllZip IsTally tallies logs) where
     pub totals-on : AreTotals (total_sums tallies root) → TotalHolds root (map (map g) (notes_in logs))
     totals-on t =
@@ -107,14 +108,14 @@ module _ (g : Note → Entry) (bare : (n : Note) → (g n).note ≡ n) (tallies 
     births-are = ap (λ (s : Sums). s.births) (totals-counted g bare root tallies logs are)
 
 -- what one lane counts is counted over all
-pub lane-over : (test : Note → Bool) (logs : List (List Entry)) (k : ℕ) → 0 < count_in test (of_lane logs k) →
+pub lane-over : (test : Note → Bool) (logs : List (List ToldNote)) (k : ℕ) → 0 < count_in test (of_lane logs k) →
     0 < count_over test logs
 lane-over test [] k some = absurd (omega (arith, some))
 lane-over test (es ∷ logs) zero some = omega (arith, some)
 lane-over test (es ∷ logs) (suc k) some = omega (arith, lane-over test logs k some)
 
 -- what follows of a count by one lane follows of the count over all
-pub over-born : {Q : Type 0} (test : Note → Bool) (logs : List (List Entry)) →
+pub over-born : {Q : Type 0} (test : Note → Bool) (logs : List (List ToldNote)) →
     ((k : ℕ) → 0 < count_in test (of_lane logs k) → Q) → 0 < count_over test logs → Q
 over-born test [] each some = absurd (omega (arith, some))
 over-born test (es ∷ logs) each some =

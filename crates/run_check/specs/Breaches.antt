@@ -10,7 +10,7 @@ use Rattle.pool_law.specs.Counts.{CountsHold, TotalHolds, count_in, count_over, 
 use Rattle.pool_law.specs.Leaks.{leaks_of}
 use Rattle.pool_law.specs.Legal.{AreCommands, LooksHold, others_retains, ends_from, logs_of}
 use Rattle.pool_law.specs.Limits.{IsShape}
-use Rattle.pool_law.specs.Logs.{Entry, of_lane, note_stands, history_of, entries_of}
+use Rattle.pool_law.specs.Logs.{ToldNote, of_lane, note_stands, history_of, entries_of}
 use Rattle.run_check.specs.Fronts.{IsBrokenAt}
 use Rattle.run_check.specs.Placing.{BreaksFirst, DifferAt, IsAnsweredTo}
 use Rattle.run_check.specs.declared.breach.Breach.{Breach}
@@ -22,7 +22,7 @@ HasLanes run =
     (length run.trace.lanes ≡ run.shape.lanes) × (length run.logs ≡ run.shape.lanes)
 
 -- each lane's log with what the histories of objects tell of it
-abbrev pub lane_entries : Run → List (List Entry)
+abbrev pub lane_entries : Run → List (List ToldNote)
 lane_entries run = entries_of (logs_of run)
 
 -- the root was born
@@ -36,15 +36,15 @@ MayNoteAll run lane notes = IsTrue (list_all (note_stands run.shape lane) notes)
 abbrev pub MarksAreRight : Run → ℕ → List Note → Type 0
 MarksAreRight run lane notes = BusyHolds lane (λ object. history_of object (logs_of run)) notes
 
-abbrev pub CountsItsRoots : Run → ℕ → List Entry → Type 0
+abbrev pub CountsItsRoots : Run → ℕ → List ToldNote → Type 0
 CountsItsRoots run lane entries = (root : RootId) → CountsHold root 0 entries
 
-abbrev pub LooksAreRight : Run → ℕ → List Entry → Type 0
+abbrev pub LooksAreRight : Run → ℕ → List ToldNote → Type 0
 LooksAreRight run lane entries =
     (root : RootId) →
     LooksHold root (others_retains root lane 0 (lane_entries run)) 0 0 0 entries
 
-abbrev pub NamesAreBorn : Run → ℕ → List Entry → Type 0
+abbrev pub NamesAreBorn : Run → ℕ → List ToldNote → Type 0
 NamesAreBorn run lane entries =
     (root : RootId) → 0 < count_in (names_root root) entries → IsBorn run root
 

@@ -5,7 +5,7 @@ use Rattle.std.specs.declared.alloc.Global.{Global}
 use Rattle.pool_law.specs.declared.note.Note.{Note}
 use Rattle.pool_law.specs.declared.run.LaneLog.{LaneLog}
 use Rattle.pool_law.specs.Logs.{Logs, of_lane, entry_of}
-use Rattle.object_steps.specs.declared.told.Told.{Told}
+use Rattle.object_steps.specs.declared.told.PlaceTold.{PlaceTold}
 use Rattle.lane_reader.specs.Reading.{entries_in}
 
 -- the note stands in a lane's log
@@ -13,10 +13,10 @@ abbrev pub IsNotedIn : Logs → Note → Type 0
 IsNotedIn logs note = (lane : ℕ) × (k : ℕ) × (slice_get (of_lane logs lane) k ≡ Some note)
 
 -- with what is told, a lane's notes are its entries
-pub record IsToldOf (logs : Logs) (told : Vec Told Global) (log : LaneLog) : Type 0 where
+pub record IsToldOf (logs : Logs) (told : Vec PlaceTold Global) (log : LaneLog) : Type 0 where
   pub entries : entries_in log.notes told.items ≡ map (entry_of logs) log.notes
   pub as_many : length told.items ≡ length log.notes
 
 -- with what is told, each lane's notes are its entries
-abbrev pub AreTold : Logs → List (Vec Told Global) → List LaneLog → Type 0
+abbrev pub AreTold : Logs → List (Vec PlaceTold Global) → List LaneLog → Type 0
 AreTold logs told lanes = AllZip (IsToldOf logs) told lanes

@@ -3,14 +3,14 @@ use Rattle.std.specs.Prelude.{◌≡◌, ℕ, zero, suc, List, [], ◌∷◌, ma
 use Rattle.pool_law.specs.declared.note.Did.{Did}
 use Rattle.pool_law.specs.Logs.{History, numbered}
 use denote.Ref.{Bor}
-use Rattle.run_check.specs.declared.gathering.Spot.{Spot}
+use Rattle.run_check.specs.declared.gathering.HistoryNote.{HistoryNote}
 
 -- a note's number, and what was done
-abbrev pub spot_data : Spot → ℕ × Did
+abbrev pub spot_data : HistoryNote → ℕ × Did
 spot_data spot = (spot.number, spot.did.now)
 
 -- the notes, one after another
-abbrev pub spots_behind : List Spot → List (ℕ × Did)
+abbrev pub spots_behind : List HistoryNote → List (ℕ × Did)
 spots_behind spots = map spot_data spots
 
 -- what is left of each lane is what a history from this number on has of it
@@ -18,7 +18,7 @@ abbrev pub AreNumbered : ℕ → (ℕ → List (ℕ × Did)) → History → Typ
 AreNumbered k left h = (lane : ℕ) → left lane ≡ numbered lane k h
 
 -- the notes of a lane, of which there may be none
-abbrev pub left_of : List (Bor (List Spot)) → ℕ → List (ℕ × Did)
+abbrev pub left_of : List (Bor (List HistoryNote)) → ℕ → List (ℕ × Did)
 left_of [] lane = []
 left_of (spots ∷ rest) zero = spots_behind spots.now
 left_of (spots ∷ rest) (suc lane) = left_of rest lane

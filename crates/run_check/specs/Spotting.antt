@@ -10,7 +10,7 @@ use Rattle.pool_law.specs.Logs.{Logs, of_lane, own}
 use Rattle.run_check.specs.Counting.{key_cmp}
 use Rattle.run_check.specs.Keying.{object_key}
 use Rattle.run_check.specs.Gathering.{spots_behind}
-use Rattle.run_check.specs.declared.gathering.Spot.{Spot}
+use Rattle.run_check.specs.declared.gathering.HistoryNote.{HistoryNote}
 use Rattle.run_check.specs.declared.spots.Spots.{Spots}
 
 -- the notes of each lane
@@ -22,7 +22,7 @@ abbrev pub replies_in : List LaneLog → List (List Answered)
 replies_in logs = map (λ l. l.replies) logs
 
 -- the notes of a list that may be there
-abbrev pub spots_in : Option (Vec Spot Global) → List (ℕ × Did)
+abbrev pub spots_in : Option (Vec HistoryNote Global) → List (ℕ × Did)
 spots_in None = []
 spots_in (Some spots) = spots_behind spots.items
 

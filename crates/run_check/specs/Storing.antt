@@ -16,17 +16,17 @@ use Rattle.run_check.specs.Keying.{object_key}
 use Rattle.run_check.specs.Merging.{dones_in}
 use Rattle.run_check.specs.Mailing.{IsHeldMail}
 use Rattle.object_steps.specs.Telling.{told_of_each}
-use Rattle.object_steps.specs.declared.told.Told.{Told}
+use Rattle.object_steps.specs.declared.told.PlaceTold.{PlaceTold}
 use Rattle.run_check.specs.declared.histories.ObjectHistory.{ObjectHistory}
 use Rattle.run_check.specs.declared.histories.Histories.{Histories}
 
 -- what an object's history tells of each of its notes
-abbrev pub told_of : Object → List Did → List Told
+abbrev pub told_of : Object → List Did → List PlaceTold
 told_of (Root place) ds = told_of_each place new_place ds
 told_of _ ds = []
 
 -- the object accepts the notes, and this is told of them; or it does not accept them
-abbrev pub TellsOf : Shape → Object → List Did → Option (Vec Told Global) → Type 0
+abbrev pub TellsOf : Shape → Object → List Did → Option (Vec PlaceTold Global) → Type 0
 TellsOf shape object ds None = accepts shape object ds ≡ false
 TellsOf shape object ds (Some told) =
     (accepts shape object ds ≡ true) × (told.items ≡ told_of object ds)
@@ -60,7 +60,7 @@ dones_of None = []
 dones_of (Some object_history) = dones_in object_history.dones.items
 
 -- what is told, of a history that may be there
-abbrev pub told_by_object_history : Option ObjectHistory → List Told
+abbrev pub told_by_object_history : Option ObjectHistory → List PlaceTold
 told_by_object_history None = []
 told_by_object_history (Some object_history) = object_history.told.items
 
@@ -69,7 +69,7 @@ abbrev pub history_in : Histories → Object → History
 history_in m object = dones_of (object_history_in m object)
 
 -- what is told of the notes at a root place
-abbrev pub told_in : Histories → ℕ → List Told
+abbrev pub told_in : Histories → ℕ → List PlaceTold
 told_in m place = told_by_object_history (object_history_in m (Root place))
 
 -- each history that is there is right

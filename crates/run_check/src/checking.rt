@@ -21,7 +21,7 @@ use crate::lanes::{
 use crate::leaks::{Report, first_misreported};
 use crate::tally::tallies_of;
 use crate::totals::first_mistotaled;
-use object_steps::{Sizes, Told, is_shape};
+use object_steps::{PlaceTold, Sizes, is_shape};
 use pool_law::Run;
 use std::alloc::{AllocError, Global};
 
@@ -39,7 +39,7 @@ fn breach_of_counts(
     alloc: Global,
     run: &Run,
     histories: &Histories,
-    told: &[Vec<Told>],
+    told: &[Vec<PlaceTold>],
 ) -> Result<Option<Breach>, AllocError>
     requires shape { IsShape run.now.shape }
     requires logs { length run.now.logs ≡ run.now.shape.lanes }
@@ -105,7 +105,7 @@ fn breach_of_answers(
     alloc: Global,
     run: &Run,
     sizes: &Sizes,
-    told: &[Vec<Told>],
+    told: &[Vec<PlaceTold>],
 ) -> Result<Option<Breach>, AllocError>
     requires shape { IsShape run.now.shape }
     requires lanes { length run.now.trace.lanes ≡ run.now.shape.lanes }

@@ -13,7 +13,7 @@ ghost use Rattle.run_check.specs.Tallying.{sums_in, others_sum};
 use crate::counts::Counts;
 use crate::tally::{Sums, Tally, others_of, sum};
 use lane_reader::Log;
-use object_steps::Told;
+use object_steps::PlaceTold;
 use pool_law::{Did, Note, RefDid, RootId};
 use std::alloc::{AllocError, Global};
 
@@ -67,7 +67,7 @@ fn ends_well(counts: &Counts, note: &Note) -> bool
 }
 
 // Whether a lane with these counts may note this.
-fn may_note(counts: &Counts, note: &Note, told: &Told) -> bool
+fn may_note(counts: &Counts, note: &Note, told: &PlaceTold) -> bool
     ensures { IsTrue result
         ↔ ((root : RootId) → NeedsHold root (count_in counts.now root) (entry note.now told.now)) }
 {

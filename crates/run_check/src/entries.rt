@@ -9,19 +9,19 @@ ghost use Rattle.run_check.specs.Storing.{AreHistories};
 ghost use Rattle.run_check.specs.Entering.{IsNotedIn, AreTold};
 
 use crate::histories::Histories;
-use object_steps::Told;
+use object_steps::PlaceTold;
 use pool_law::{LaneLog, Note, Object};
 use std::alloc::{AllocError, Global};
 
 // What is told of the note with this number.
-fn told_of(told: &[Told], number: u64) -> Told
+fn told_of(told: &[PlaceTold], number: u64) -> PlaceTold
     ensures { result ≡ unwrap_or (slice_get told.now (number - 1)) untold }
 {
     let at = number.saturating_sub(1) as usize;
     if at < told.len() {
         told[at]
     } else {
-        Told {
+        PlaceTold {
             root: None,
             region: None,
         }
@@ -29,11 +29,11 @@ fn told_of(told: &[Told], number: u64) -> Told
 }
 
 // What is told of a note in the logs.
-fn told_at(histories: &Histories, note: &Note) -> Told
+fn told_at(histories: &Histories, note: &Note) -> PlaceTold
     ensures { (shape : Shape) → (logs : Logs) → AreHistories shape logs histories.now
         → IsNotedIn logs note.now → entry note.now result ≡ entry_of logs note.now }
 {
-    let untold = Told {
+    let untold = PlaceTold {
         root: None,
         region: None,
     };
@@ -55,7 +55,7 @@ pub fn told_of_lane(
     alloc: Global,
     histories: &Histories,
     notes: &[Note],
-) -> Result<Vec<Told>, AllocError>
+) -> Result<Vec<PlaceTold>, AllocError>
     ensures { (shape : Shape) → (logs : Logs) → (lane : ℕ) → AreHistories shape logs histories.now
         → notes.now ≡ of_lane logs lane
         → IfOk result (λ told. (entries_in notes.now told.items ≡ map (entry_of logs) notes.now)
@@ -73,7 +73,7 @@ pub fn told_of_lanes(
     alloc: Global,
     histories: &Histories,
     logs: &[LaneLog],
-) -> Result<Vec<Vec<Told>>, AllocError>
+) -> Result<Vec<Vec<PlaceTold>>, AllocError>
     ensures { (shape : Shape) → AreHistories shape (notes_in logs.now) histories.now
         → IfOk result (λ told. AreTold (notes_in logs.now) told.items logs.now) }
 {

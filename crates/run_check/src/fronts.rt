@@ -7,7 +7,7 @@ ghost use Rattle.object_steps.specs.Behind.{dids_behind};
 ghost use Rattle.run_check.specs.Fronts.{AcceptsSoMany, IsBrokenAt, StopsAt};
 ghost use Rattle.run_check.specs.Storing.{TellsOf};
 
-use object_steps::{Sizes, Told, accepts, told_of_each};
+use object_steps::{PlaceTold, Sizes, accepts, told_of_each};
 use pool_law::{Did, Object, Shape};
 use std::alloc::{AllocError, Global};
 
@@ -72,7 +72,7 @@ pub fn told_at(
     sizes: &Sizes,
     object: &Object,
     dids: &[&Did],
-) -> Result<Option<Vec<Told>>, AllocError>
+) -> Result<Option<Vec<PlaceTold>>, AllocError>
     requires sizes { sizes.now ≡ geometry_of shape.now }
     requires chunks { shape.now.chunks ≤ 2 ^ 16 }
     requires handles { 1 ≤ shape.now.handles }

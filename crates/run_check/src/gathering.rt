@@ -7,13 +7,13 @@ use pool_law::Did;
 
 /// A note at an object: its number there, and what was done.
 #[derive(Clone, Copy, Drop)]
-pub struct Spot<'a> {
+pub struct HistoryNote<'a> {
     pub number: u64,
     pub did: &'a Did,
 }
 
 /// The first lane whose next note has this number.
-pub fn lane_with(left: &[&[Spot]], number: u64) -> Option<usize>
+pub fn lane_with(left: &[&[HistoryNote]], number: u64) -> Option<usize>
     ensures { MatchOption result (IsStuck number (left_of left.now))
         (λ lane. HasNext number (left_of left.now lane) × (lane < length left.now)) }
 {
@@ -26,7 +26,7 @@ pub fn lane_with(left: &[&[Spot]], number: u64) -> Option<usize>
 }
 
 // Whether the first of these notes has this number.
-fn has_next(spots: &[Spot], number: u64) -> bool
+fn has_next(spots: &[HistoryNote], number: u64) -> bool
     ensures { IsTrue result ↔ HasNext number (spots_behind spots.now) }
 {
     if spots.is_empty() {

@@ -18,7 +18,7 @@ use crate::mails::mail_broken_at;
 use crate::merging::{Done, merged};
 use crate::spots::{Spots, left_at, spots_of};
 use crate::stands::has_history;
-use object_steps::{Sizes, Told};
+use object_steps::{PlaceTold, Sizes};
 use pool_law::{Did, LaneLog, Note, Object, Shape};
 use std::alloc::{AllocError, Global};
 use std::collections::BTreeMap;
@@ -27,7 +27,7 @@ use std::collections::BTreeMap;
 #[derive(Drop)]
 pub struct ObjectHistory<'a> {
     dones: Vec<Done<'a>>,
-    told: Vec<Told>,
+    told: Vec<PlaceTold>,
 }
 
 /// Where the law is broken at an object.
@@ -148,7 +148,7 @@ impl<'a> Histories<'a> {
     }
 
     // What is told of each note at a root place, if it is there.
-    fn found_told(&self, place: u32) -> Option<&[Told]>
+    fn found_told(&self, place: u32) -> Option<&[PlaceTold]>
         ensures { MatchOption result (told_in self.now place ≡ [])
             (λ told. told.now ≡ told_in self.now place) }
     {
@@ -157,7 +157,7 @@ impl<'a> Histories<'a> {
     }
 
     /// What is told of each note at a root place.
-    pub fn told(&self, place: u32) -> &[Told]
+    pub fn told(&self, place: u32) -> &[PlaceTold]
         ensures { result.now ≡ told_in self.now place }
     {
         self.found_told(place).unwrap_or(&[])

@@ -23,12 +23,12 @@ use crate::stands::astray_at;
 use crate::tally::Tally;
 use crate::totals::unborn_at;
 use lane_reader::{Log, first_unlike};
-use object_steps::{Sizes, Told};
+use object_steps::{PlaceTold, Sizes};
 use pool_law::{CommandList, LaneLog, Shape};
 use std::alloc::{AllocError, Global};
 
 // The log of a lane, with what is told of its notes.
-fn log_at<'a>(logs: &'a [LaneLog], told: &'a [Vec<Told>], lane: usize) -> Log<'a>
+fn log_at<'a>(logs: &'a [LaneLog], told: &'a [Vec<PlaceTold>], lane: usize) -> Log<'a>
     requires told { AreTold (notes_in logs.now) told.now logs.now }
     requires there { lane < length logs.now }
     ensures entries { entries result ≡ of_lane (entries_of (notes_in logs.now)) lane }
@@ -94,7 +94,7 @@ pub fn first_mismarked(
 pub fn first_miscounted(
     alloc: Global,
     logs: &[LaneLog],
-    told: &[Vec<Told>],
+    told: &[Vec<PlaceTold>],
 ) -> Result<Option<NoteSpot>, AllocError>
     requires few { length logs.now ≤ 2 ^ 16 }
     requires told { AreTold (notes_in logs.now) told.now logs.now }
@@ -136,7 +136,7 @@ pub fn first_mislooked(
     alloc: Global,
     tallies: &[Tally],
     logs: &[LaneLog],
-    told: &[Vec<Told>],
+    told: &[Vec<PlaceTold>],
 ) -> Result<Option<NoteSpot>, AllocError>
     requires few { length logs.now ≤ 2 ^ 16 }
     requires told { AreTold (notes_in logs.now) told.now logs.now }
@@ -165,7 +165,7 @@ pub fn first_misanswered(
     sizes: &Sizes,
     lanes: &[CommandList],
     logs: &[LaneLog],
-    told: &[Vec<Told>],
+    told: &[Vec<PlaceTold>],
 ) -> Result<Option<(u32, usize)>, AllocError>
     requires arenas { 1 ≤ shape.now.arenas }
     requires handles { 1 ≤ shape.now.handles }

@@ -11,7 +11,7 @@ ghost use Rattle.run_check.specs.Spotting.{laned, AreSpots};
 ghost use Rattle.run_check.specs.Mailing.{sent_among, received_among, all_passed, IsInTurn, IsOfPost, Passes, FailsAt, IsHeldMail};
 ghost use Rattle.run_check.specs.Fronts.{IsBrokenAt};
 
-use crate::gathering::Spot;
+use crate::gathering::HistoryNote;
 use crate::spots::Spots;
 use pool_law::{Did, Object, Parcel};
 use std::alloc::{AllocError, Global};
@@ -24,7 +24,7 @@ struct Passed {
 }
 
 // One more note at a mail: its parcel, if it is posted.
-fn push_sent(all: &mut Vec<Passed>, spot: &Spot) -> Result<(), AllocError>
+fn push_sent(all: &mut Vec<Passed>, spot: &HistoryNote) -> Result<(), AllocError>
     ensures { OnOk result (all_passed all.new.items
         ≡ all_passed all.old.items ++ gone spot.now.number (passing spot.now.did.now)) }
 {
@@ -41,7 +41,7 @@ fn push_sent(all: &mut Vec<Passed>, spot: &Spot) -> Result<(), AllocError>
 }
 
 // One more note at a mail: its parcel, if it is fetched.
-fn push_received(all: &mut Vec<Passed>, spot: &Spot) -> Result<(), AllocError>
+fn push_received(all: &mut Vec<Passed>, spot: &HistoryNote) -> Result<(), AllocError>
     ensures { OnOk result (all_passed all.new.items
         ≡ all_passed all.old.items ++ come spot.now.number (passing spot.now.did.now)) }
 {
@@ -58,7 +58,7 @@ fn push_received(all: &mut Vec<Passed>, spot: &Spot) -> Result<(), AllocError>
 }
 
 // What these notes at a mail post.
-fn sent_in(alloc: Global, spots: &[Spot]) -> Result<Vec<Passed>, AllocError>
+fn sent_in(alloc: Global, spots: &[HistoryNote]) -> Result<Vec<Passed>, AllocError>
     ensures { IfOk result (λ all. all_passed all.items ≡ sent_among (spots_behind spots.now)) }
 {
     let mut all = Vec::new(alloc);
@@ -69,7 +69,7 @@ fn sent_in(alloc: Global, spots: &[Spot]) -> Result<Vec<Passed>, AllocError>
 }
 
 // What these notes at a mail fetch.
-fn received_in(alloc: Global, spots: &[Spot]) -> Result<Vec<Passed>, AllocError>
+fn received_in(alloc: Global, spots: &[HistoryNote]) -> Result<Vec<Passed>, AllocError>
     ensures { IfOk result (λ all. all_passed all.items ≡ received_among (spots_behind spots.now)) }
 {
     let mut all = Vec::new(alloc);

@@ -6,7 +6,7 @@ ghost use Rattle.run_check.specs.Gathering.{AreNumbered, spot_data, spots_behind
 ghost use Rattle.run_check.specs.Merging.{dones_in};
 ghost use Rattle.run_check.specs.Fronts.{StopsAt};
 
-use crate::gathering::{Spot, lane_with};
+use crate::gathering::{HistoryNote, lane_with};
 use pool_law::Did;
 use std::alloc::{AllocError, Global};
 
@@ -29,7 +29,7 @@ pub struct Stop<'a> {
 /// The history in which each note stands at its number, or how far there is one.
 pub fn merged<'a>(
     alloc: Global,
-    mut left: Vec<&[Spot<'a>]>,
+    mut left: Vec<&[HistoryNote<'a>]>,
 ) -> Result<Result<Vec<Done<'a>>, Stop<'a>>, AllocError>
     ensures { IfOk result (λ h. MatchResult h
         (λ h. AreNumbered 1 (left_of left.entry.items) (dones_in h.items))
@@ -63,7 +63,7 @@ pub fn merged<'a>(
 }
 
 // The first of these notes.
-fn first_of<'a>(spots: &[Spot<'a>]) -> Option<Spot<'a>>
+fn first_of<'a>(spots: &[HistoryNote<'a>]) -> Option<HistoryNote<'a>>
     ensures { MatchOption result (spots_behind spots.now ≡ [])
         (λ s. (spots_behind spots.now ≡ spot_data s ∷ spots_behind (drop 1 spots.now))
         × (1 ≤ length spots.now)) }
@@ -73,7 +73,7 @@ fn first_of<'a>(spots: &[Spot<'a>]) -> Option<Spot<'a>>
 }
 
 // Whether no lane has a note left.
-fn none_left(left: &[&[Spot]]) -> bool
+fn none_left(left: &[&[HistoryNote]]) -> bool
     ensures { IsTrue result ↔ ((lane : ℕ) → left_of left.now lane ≡ []) }
 {
     for spots in left {
@@ -85,7 +85,7 @@ fn none_left(left: &[&[Spot]]) -> bool
 }
 
 // The least of this number and those of these notes.
-fn least_of(spots: &[Spot], number: u64) -> u64
+fn least_of(spots: &[HistoryNote], number: u64) -> u64
     ensures most { result ≤ number }
     ensures least { All (λ x. result ≤ x.0) (spots_behind spots.now) }
     ensures there { result < number → All (λ x. result < x.0) (spots_behind spots.now) → ⊥ }
@@ -98,7 +98,7 @@ fn least_of(spots: &[Spot], number: u64) -> u64
 }
 
 // The least of this number and those of the notes that are left.
-fn least_left(left: &[&[Spot]], number: u64) -> u64
+fn least_left(left: &[&[HistoryNote]], number: u64) -> u64
     ensures most { result ≤ number }
     ensures least { (lane : ℕ) → All (λ x. result ≤ x.0) (left_of left.now lane) }
     ensures there { result < number

@@ -10,7 +10,7 @@ ghost use Rattle.pool_law.specs.Logs.{own_note, own};
 ghost use Rattle.run_check.specs.Gathering.{spot_data, spots_behind, left_of};
 ghost use Rattle.run_check.specs.Spotting.{spots_at, notes_in, laned, AreSpots};
 
-use crate::gathering::Spot;
+use crate::gathering::HistoryNote;
 use crate::keys::object_key;
 use pool_law::{LaneLog, Note, Object};
 use std::alloc::{AllocError, Global};
@@ -19,9 +19,9 @@ use std::collections::BTreeMap;
 /// The notes of a lane at each object, oldest first.
 #[derive(Drop)]
 pub struct Spots<'a> {
-    map: BTreeMap<(u32, u32, u32), Vec<Spot<'a>>>,
+    map: BTreeMap<(u32, u32, u32), Vec<HistoryNote<'a>>>,
     // Of this nothing is read but an empty part.
-    none: Vec<Spot<'a>>,
+    none: Vec<HistoryNote<'a>>,
 }
 
 impl<'a> Spots<'a> {
@@ -36,7 +36,7 @@ impl<'a> Spots<'a> {
     }
 
     // The notes at an object, if there are any.
-    fn found(&self, object: &Object) -> Option<&[Spot<'a>]>
+    fn found(&self, object: &Object) -> Option<&[HistoryNote<'a>]>
         ensures { MatchOption result (spots_at self.now object.now ≡ [])
             (λ spots. spots_behind spots.now ≡ spots_at self.now object.now) }
     {
@@ -45,14 +45,14 @@ impl<'a> Spots<'a> {
     }
 
     /// The notes at an object.
-    pub fn at(&self, object: &Object) -> &[Spot<'a>]
+    pub fn at(&self, object: &Object) -> &[HistoryNote<'a>]
         ensures { spots_behind result.now ≡ spots_at self.now object.now }
     {
         self.found(object).unwrap_or(&self.none[..0])
     }
 
     // Takes the notes at an object out.
-    fn take(&mut self, alloc: Global, object: &Object) -> Vec<Spot<'a>>
+    fn take(&mut self, alloc: Global, object: &Object) -> Vec<HistoryNote<'a>>
         ensures items { spots_behind result.items ≡ spots_at self.old object.now }
         ensures others { (q : ℕ × ℕ × ℕ) → get key_cmp self.new.map q
             ≡ (if is_at (key_cmp (object_key object.now)) q then None
@@ -65,7 +65,12 @@ impl<'a> Spots<'a> {
     }
 
     // One more note at an object.
-    fn put(&mut self, alloc: Global, object: &Object, spot: Spot<'a>) -> Result<(), AllocError>
+    fn put(
+        &mut self,
+        alloc: Global,
+        object: &Object,
+        spot: HistoryNote<'a>,
+    ) -> Result<(), AllocError>
         ensures { (other : Object) → OnOk result (spots_at self.new other
             ≡ (if same_object object.now other
             then spots_at self.old other ++ spot_data spot.entry ∷ []
@@ -90,7 +95,7 @@ impl<'a> Spots<'a> {
             } => self.put(
                 alloc,
                 object,
-                Spot {
+                HistoryNote {
                     number: *number,
                     did,
                 },
@@ -129,7 +134,7 @@ pub fn left_at<'s, 'a>(
     alloc: Global,
     lanes: &'s [Spots<'a>],
     object: &Object,
-) -> Result<Vec<&'s [Spot<'a>]>, AllocError>
+) -> Result<Vec<&'s [HistoryNote<'a>]>, AllocError>
     ensures { IfOk result (λ left. (lane : ℕ)
         → left_of left.items lane ≡ laned lanes.now object.now lane) }
 {

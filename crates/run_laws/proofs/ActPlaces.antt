@@ -3,8 +3,8 @@ use Rattle.std.proofs.Common.{⊎_elim, inl, inr, ◌≡◌, ℕ, zero, suc, ◌
 use Rattle.std.specs.Prelude.{◌⊎◌, ◌<◌, slice_get}
 use Rattle.pool_law.specs.declared.note.Object.{Object}
 use Rattle.pool_law.specs.declared.note.Did.{Did}
-use Rattle.pool_law.specs.Logs.{Entry}
-use Rattle.pool_law.specs.Readers.{Entries}
+use Rattle.pool_law.specs.Logs.{ToldNote}
+use Rattle.pool_law.specs.Readers.{ToldNotes}
 use Rattle.pool_law.proofs.HistoryLemmas.{append-nil}
 use Rattle.run_laws.proofs.Acts.{Act, act_notes, all_notes, Acts}
 
@@ -28,7 +28,7 @@ get-split (y ∷ xs) ys (suc i) x e =
 
 module _ (P : Object → Did → Type 0) where
   -- where an entry stands in an act, each of the act's entries does, in order
-  pub record Within (es : Entries) (i : ℕ) (e : Entry) : Type 0 where
+  pub record Within (es : ToldNotes) (i : ℕ) (e : ToldNote) : Type 0 where
     pub act : Act P
     pub index : ℕ
     pub found : slice_get (act_notes act) index ≡ Some e
@@ -36,9 +36,9 @@ module _ (P : Object → Did → Type 0) where
     pub here : i ≡ place index
     pub rises : (j l : ℕ) → j < l → place j < place l
     pub in_row : (j : ℕ) → place j ≡ place 0 + j
-    pub there : (j : ℕ) (x : Entry) → slice_get (act_notes act) j ≡ Some x → slice_get es (place j) ≡ Some x
+    pub there : (j : ℕ) (x : ToldNote) → slice_get (act_notes act) j ≡ Some x → slice_get es (place j) ≡ Some x
 
-  pub within-behind : (xs es : Entries) (i : ℕ) (e : Entry) → Within es i e → Within (xs ++ es) (length xs + i) e
+  pub within-behind : (xs es : ToldNotes) (i : ℕ) (e : ToldNote) → Within es i e → Within (xs ++ es) (length xs + i) e
   within-behind [] es i e w = let same : i ≡ 0 + i = omega arith in subst (λ k. Within es k e) same w
   within-behind (x ∷ xs) es i e w =
       let r : Within (xs ++ es) (length xs + i) e = within-behind xs es i e w in
@@ -55,7 +55,7 @@ module _ (P : Object → Did → Type 0) where
         there = r.there;
       }
 
-  pub entry-within : (es : Entries) (i : ℕ) (e : Entry) → Acts P es [] → slice_get es i ≡ Some e → Within es i e
+  pub entry-within : (es : ToldNotes) (i : ℕ) (e : ToldNote) → Acts P es [] → slice_get es i ≡ Some e → Within es i e
   entry-within es i e a is =
       subst (λ xs. Within xs i e) (sym whole) (go a.acts i (ap (λ xs. slice_get xs i) (sym whole) ∙ is))
     where

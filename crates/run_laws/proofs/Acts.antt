@@ -11,17 +11,17 @@ use Rattle.pool_law.specs.declared.note.RefDid.{RefDid}
 use Rattle.pool_law.specs.declared.note.Note.{Note}
 use Rattle.pool_law.specs.declared.note.Note.TheVariants.{At, Ref, Busy}
 use Rattle.pool_law.specs.Limits.{has_cache}
-use Rattle.pool_law.specs.Logs.{Entry}
-use Rattle.pool_law.specs.Readers.{Entries}
+use Rattle.pool_law.specs.Logs.{ToldNote}
+use Rattle.pool_law.specs.Readers.{ToldNotes}
 use Rattle.pool_law.specs.Patterns.{one_more}
 use Rattle.pool_law.proofs.HistoryLemmas.{append-assoc}
 use Rattle.run_laws.proofs.Sums.{sum_by}
 
 -- a sum over entries, by their notes
-abbrev pub sum_notes : (Note → ℕ) → Entries → ℕ
+abbrev pub sum_notes : (Note → ℕ) → ToldNotes → ℕ
 sum_notes f es = sum_by (λ e. f e.note) es
 
-pub notes-append : (f : Note → ℕ) (xs ys : Entries) → sum_notes f (xs ++ ys) ≡ sum_notes f xs + sum_notes f ys
+pub notes-append : (f : Note → ℕ) (xs ys : ToldNotes) → sum_notes f (xs ++ ys) ≡ sum_notes f xs + sum_notes f ys
 notes-append f [] ys = omega arith
 notes-append f (x ∷ xs) ys = omega (arith, notes-append f xs ys)
 
@@ -56,7 +56,7 @@ IsQuiet P (At o k d) = IsStill P o d
 IsQuiet P (Ref root d) = IsStep d
 IsQuiet P (Busy held) = Unit {0}
 
-abbrev pub AreQuiet : (Object → Did → Type 0) → Option Entry → Type 0
+abbrev pub AreQuiet : (Object → Did → Type 0) → Option ToldNote → Type 0
 AreQuiet P None = Unit {0}
 AreQuiet P (Some e) = IsQuiet P e.note
 
@@ -77,7 +77,7 @@ pub record IsAt (did : Did) (n : Note) : Type 0 where
   pub is : n ≡ At object number did
 
 -- a region is got, a root is born with it, and the root's word is set
-pub record Birthing (got birth set : Entry) : Type 0 where
+pub record Birthing (got birth set : ToldNote) : Type 0 where
   pub root : RootId
   pub region : RegionId
   pub did : Did
@@ -87,7 +87,7 @@ pub record Birthing (got birth set : Entry) : Type 0 where
   pub set_is : set.note ≡ Ref root RefDid.Born
 
 -- a region is got, a root grows into it, and the region that it leaves is put away
-pub record Growing (got growth away : Entry) : Type 0 where
+pub record Growing (got growth away : ToldNote) : Type 0 where
   pub capacity : ℕ
   pub region : RegionId
   pub left : RegionId
@@ -101,7 +101,7 @@ pub record Growing (got growth away : Entry) : Type 0 where
   pub puts_away : PutsAway left did
 
 -- a region is got, and put away unused
-pub record Sparing (got away : Entry) : Type 0 where
+pub record Sparing (got away : ToldNote) : Type 0 where
   pub region : RegionId
   pub got_did : Did
   pub got_is : IsAt got_did got.note
@@ -111,7 +111,7 @@ pub record Sparing (got away : Entry) : Type 0 where
   pub puts_away : PutsAway region did
 
 -- a count ends, then its root, whose place is vacated, and its region is put away
-pub record Ending (ended end vacated away : Entry) : Type 0 where
+pub record Ending (ended end vacated away : ToldNote) : Type 0 where
   pub root : RootId
   pub region : RegionId
   pub ended_is : ended.note ≡ Ref root RefDid.Ended
@@ -123,7 +123,7 @@ pub record Ending (ended end vacated away : Entry) : Type 0 where
   pub puts_away : PutsAway region did
 
 -- a closed cache sheds a region, which is given to its arena
-pub record Shedding (P : Object → Did → Type 0) (shed given : Entry) : Type 0 where
+pub record Shedding (P : Object → Did → Type 0) (shed given : ToldNote) : Type 0 where
   pub region : RegionId
   pub shed_is : IsAt (Shed region) shed.note
   pub may : P shed_is.object (Shed region)
@@ -131,21 +131,22 @@ pub record Shedding (P : Object → Did → Type 0) (shed given : Entry) : Type 
 
 -- a cache may refuse the region before it is put away
 pub data Act (P : Object → Did → Type 0) : Type 0 where
-  Quiet : (e : Entry) → IsQuiet P e.note → Act P
-  Births : (got birth set : Entry) → Birthing got birth set → Act P
-  Grows : (got growth : Entry) (refused : Option Entry) (away : Entry) → AreQuiet P refused
+  Quiet : (e : ToldNote) → IsQuiet P e.note → Act P
+  Births : (got birth set : ToldNote) → Birthing got birth set → Act P
+  Grows : (got growth : ToldNote) (refused : Option ToldNote) (away : ToldNote) → AreQuiet P refused
       → Growing got growth away → Act P
-  Spares : (got found : Entry) (refused : Option Entry) (away : Entry) → IsQuiet P found.note → AreQuiet P refused
+  Spares : (got found : ToldNote) (refused : Option ToldNote) (away : ToldNote) → IsQuiet P found.note → AreQuiet P
+      refused
       → Sparing got away → Act P
-  Ends : (ended end vacated : Entry) (refused : Option Entry) (away : Entry) → AreQuiet P refused
+  Ends : (ended end vacated : ToldNote) (refused : Option ToldNote) (away : ToldNote) → AreQuiet P refused
       → Ending ended end vacated away → Act P
-  Sheds : (shed given : Entry) → Shedding P shed given → Act P
+  Sheds : (shed given : ToldNote) → Shedding P shed given → Act P
 
-abbrev pub before : Option Entry → Entries → Entries
+abbrev pub before : Option ToldNote → ToldNotes → ToldNotes
 before None es = es
 before (Some e) es = e ∷ es
 
-abbrev pub act_notes : {P : Object → Did → Type 0} → Act P → Entries
+abbrev pub act_notes : {P : Object → Did → Type 0} → Act P → ToldNotes
 act_notes (Act.Quiet e quiet) = e ∷ []
 act_notes (Act.Births got birth set b) = got ∷ birth ∷ set ∷ []
 act_notes (Act.Grows got growth refused away quiet g) = got ∷ growth ∷ before refused (away ∷ [])
@@ -153,46 +154,46 @@ act_notes (Act.Spares got found refused away still quiet s) = got ∷ found ∷ 
 act_notes (Act.Ends ended end vacated refused away quiet e) = ended ∷ end ∷ vacated ∷ before refused (away ∷ [])
 act_notes (Act.Sheds shed given x) = shed ∷ given ∷ []
 
-abbrev pub all_notes : {P : Object → Did → Type 0} → List (Act P) → Entries
+abbrev pub all_notes : {P : Object → Did → Type 0} → List (Act P) → ToldNotes
 all_notes [] = []
 all_notes (a ∷ acts) = act_notes a ++ all_notes acts
 
 -- notes are some acts before others
-pub record Acts (P : Object → Did → Type 0) (es rest : Entries) : Type 0 where
+pub record Acts (P : Object → Did → Type 0) (es rest : ToldNotes) : Type 0 where
   pub acts : List (Act P)
   pub are : es ≡ all_notes acts ++ rest
 
 module _ {P : Object → Did → Type 0} where
-  pub no-acts : (es rest : Entries) → es ≡ rest → Acts P es rest
+  pub no-acts : (es rest : ToldNotes) → es ≡ rest → Acts P es rest
   no-acts es rest same = record { acts = []; are = same }
 
-  pub one-act : (a : Act P) (es rest : Entries) → es ≡ act_notes a ++ rest → Acts P es rest
+  pub one-act : (a : Act P) (es rest : ToldNotes) → es ≡ act_notes a ++ rest → Acts P es rest
   one-act a es rest is = record { acts = a ∷ []; are = is ∙ sym (append-assoc (act_notes a) [] rest) }
 
-  pub grow-act : (got growth : Entry) (refused : Option Entry) (away : Entry) → AreQuiet P refused
-      → Growing got growth away → (es rest : Entries) → es ≡ got ∷ (growth ∷ before refused (away ∷ rest))
+  pub grow-act : (got growth : ToldNote) (refused : Option ToldNote) (away : ToldNote) → AreQuiet P refused
+      → Growing got growth away → (es rest : ToldNotes) → es ≡ got ∷ (growth ∷ before refused (away ∷ rest))
       → Acts P es rest
   grow-act got growth None away quiet g es rest is = one-act (Act.Grows got growth None away quiet g) es rest is
   grow-act got growth (Some x) away quiet g es rest is =
       one-act (Act.Grows got growth (Some x) away quiet g) es rest is
 
-  pub spare-act : (got found : Entry) (refused : Option Entry) (away : Entry) → IsQuiet P found.note
-      → AreQuiet P refused → Sparing got away → (es rest : Entries)
+  pub spare-act : (got found : ToldNote) (refused : Option ToldNote) (away : ToldNote) → IsQuiet P found.note
+      → AreQuiet P refused → Sparing got away → (es rest : ToldNotes)
       → es ≡ got ∷ (found ∷ before refused (away ∷ rest)) → Acts P es rest
   spare-act got found None away still quiet s es rest is =
       one-act (Act.Spares got found None away still quiet s) es rest is
   spare-act got found (Some x) away still quiet s es rest is =
       one-act (Act.Spares got found (Some x) away still quiet s) es rest is
 
-  pub end-act : (ended end vacated : Entry) (refused : Option Entry) (away : Entry) → AreQuiet P refused
-      → Ending ended end vacated away → (es rest : Entries) →
+  pub end-act : (ended end vacated : ToldNote) (refused : Option ToldNote) (away : ToldNote) → AreQuiet P refused
+      → Ending ended end vacated away → (es rest : ToldNotes) →
       es ≡ ended ∷ (end ∷ (vacated ∷ before refused (away ∷ rest))) → Acts P es rest
   end-act ended end vacated None away quiet e es rest is =
       one-act (Act.Ends ended end vacated None away quiet e) es rest is
   end-act ended end vacated (Some x) away quiet e es rest is =
       one-act (Act.Ends ended end vacated (Some x) away quiet e) es rest is
 
-  pub acts-then : (es mid rest : Entries) → Acts P es mid → Acts P mid rest → Acts P es rest
+  pub acts-then : (es mid rest : ToldNotes) → Acts P es mid → Acts P mid rest → Acts P es rest
   acts-then es mid rest a b =
       record {
         acts = a.acts ++ b.acts;
@@ -205,13 +206,13 @@ module _ {P : Object → Did → Type 0} where
       go (x ∷ xs) =
           ap (λ ys. act_notes x ++ ys) (go xs) ∙ sym (append-assoc (act_notes x) (all_notes xs) (all_notes b.acts))
 
-  pub acts-before : (es rest : Entries) → Acts P es [] → Acts P (es ++ rest) rest
+  pub acts-before : (es rest : ToldNotes) → Acts P es [] → Acts P (es ++ rest) rest
   acts-before es rest a =
       record { acts = a.acts; are = ap (λ xs. xs ++ rest) a.are ∙ append-assoc (all_notes a.acts) [] rest }
 
   -- what each act leaves as it is, all of them do
-  pub acts-keep : {X : Type 0} (f : Entries → X) → ((a : Act P) (es : Entries) → f (act_notes a ++ es) ≡ f es)
-      → (acts : List (Act P)) (rest : Entries) → f (all_notes acts ++ rest) ≡ f rest
+  pub acts-keep : {X : Type 0} (f : ToldNotes → X) → ((a : Act P) (es : ToldNotes) → f (act_notes a ++ es) ≡ f es)
+      → (acts : List (Act P)) (rest : ToldNotes) → f (all_notes acts ++ rest) ≡ f rest
   acts-keep f keeps [] rest = refl
   acts-keep f keeps (x ∷ acts) rest =
       ap f (append-assoc (act_notes x) (all_notes acts) rest) ∙ keeps x (all_notes acts ++ rest)
@@ -259,7 +260,7 @@ module _ (P : Object → Did → Type 0) where
     pub shed : (o p : Object) (k l : ℕ) (r : RegionId) → P o (Shed r)
         → f (At o k (Shed r)) + f (At p l (Give r)) ≤ g (At o k (Shed r)) + g (At p l (Give r))
 
-  less-away : (f g : Note → ℕ) → Less f g → (r : RegionId) (d : Did) (refused : Option Entry) (away : Entry)
+  less-away : (f g : Note → ℕ) → Less f g → (r : RegionId) (d : Did) (refused : Option ToldNote) (away : ToldNote)
       → AreQuiet P refused → IsAt d away.note → PutsAway r d
       → sum_notes f (before refused (away ∷ [])) ≤ sum_notes g (before refused (away ∷ []))
   less-away f g less r d None away quiet at puts =
@@ -322,7 +323,7 @@ module _ (P : Object → Did → Type 0) where
         ap g x.given_is.is,
       )
 
-  pub less-acts : (f g : Note → ℕ) → Less f g → (es rest : Entries) → Acts P es rest
+  pub less-acts : (f g : Note → ℕ) → Less f g → (es rest : ToldNotes) → Acts P es rest
       → sum_notes f rest ≤ sum_notes g rest → sum_notes f es ≤ sum_notes g es
   less-acts f g less es rest a last =
       omega (

@@ -17,11 +17,11 @@ use Rattle.pool_law.specs.Logs.{Logs, dids, history_of}
 use Rattle.run_laws.proofs.PagedHistories.{HistoriesPaged}
 use Rattle.pool_law.specs.Lives.{Done, IsUse, arena_of, with_uses}
 use Rattle.pool_law.specs.Apart.{Before, LieApart}
-use Rattle.arena_law.specs.Returns.{gives}
+use Rattle.arena_laws.specs.Returns.{gives}
 use Rattle.pool_law.proofs.SameLemmas.{same_region-is}
 use Rattle.pool_law.proofs.PatternLemmas.{same_taking-refl, both_true}
 use Rattle.run_laws.proofs.LogEntries.{LanesAct}
-use Rattle.arena_law.proofs.ReturnLaw.{comes-back, after-append}
+use Rattle.arena_laws.proofs.ReturnLaw.{comes-back, after-append}
 use Rattle.run_laws.proofs.Placed.{is-some}
 use Rattle.run_laws.proofs.Totals.{births_in}
 use Rattle.run_laws.proofs.LifeLaw.{taken-of}

@@ -8,7 +8,7 @@ use Rattle.pool_law.specs.declared.note.RefDid.TheVariants.{Born, Retain, Ended,
 use Rattle.pool_law.specs.declared.note.Note.{Note}
 use Rattle.pool_law.specs.declared.note.Note.TheVariants.{At, Ref, Busy}
 use Rattle.pool_law.specs.Same.{same_root}
-use Rattle.pool_law.specs.Logs.{Entry, of_lane}
+use Rattle.pool_law.specs.Logs.{ToldNote, of_lane}
 use Rattle.pool_law.specs.Counts.{view_is_of, root_is, ref_gains, ref_loses, ref_needs, note_gains, note_loses, note_needs, count_step, count_from, CountsHold, count_in, count_over, is_retain, is_release, is_born, TotalHolds}
 use Rattle.run_laws.specs.CountLaw.{is_posted, is_fetched, counts_of, TotalIsCounted}
 
@@ -50,7 +50,7 @@ or-left true b e = refl
 or-left false b e = absurd (cc e)
 
 -- a lane's count is what it gained less what it lost
-pub count-balances : (root : RootId) (k : ℕ) (es : List Entry) → CountsHold root k es
+pub count-balances : (root : RootId) (k : ℕ) (es : List ToldNote) → CountsHold root k es
     → count_from root k es + count_in (note_loses root) es ≡ k + count_in (note_gains root) es
 count-balances root k [] h = omega arith
 count-balances root k (e ∷ es) h =
@@ -104,26 +104,26 @@ losses-are root (Busy held) = refl
 losses-are root (At object number (Post parcel)) = omega arith
 losses-are root (At object number _) = refl
 
-pub gained-in : (root : RootId) (es : List Entry) → count_in (note_gains root) es
+pub gained-in : (root : RootId) (es : List ToldNote) → count_in (note_gains root) es
     ≡ count_in (is_born root) es + (count_in (is_retain root) es + count_in (is_fetched root) es)
 gained-in root [] = refl
 gained-in root (e ∷ es) = omega (arith, gains-are root e.note, gained-in root es)
 
-pub lost-in : (root : RootId) (es : List Entry) → count_in (note_loses root) es
+pub lost-in : (root : RootId) (es : List ToldNote) → count_in (note_loses root) es
     ≡ count_in (is_release root) es + count_in (is_posted root) es
 lost-in root [] = refl
 lost-in root (e ∷ es) = omega (arith, losses-are root e.note, lost-in root es)
 
-abbrev pub EachLane : RootId → List (List Entry) → Type 0
+abbrev pub EachLane : RootId → List (List ToldNote) → Type 0
 EachLane root [] = Unit {0}
 EachLane root (es ∷ logs) = CountsHold root 0 es × EachLane root logs
 
-pub each-lane : (root : RootId) (logs : List (List Entry)) → ((lane : ℕ) → CountsHold root 0 (of_lane logs lane))
+pub each-lane : (root : RootId) (logs : List (List ToldNote)) → ((lane : ℕ) → CountsHold root 0 (of_lane logs lane))
     → EachLane root logs
 each-lane root [] h = tt
 each-lane root (es ∷ logs) h = (h 0, each-lane root logs (λ lane. h (suc lane)))
 
-pub sums : (root : RootId) (logs : List (List Entry)) → EachLane root logs →
+pub sums : (root : RootId) (logs : List (List ToldNote)) → EachLane root logs →
     counts_of root logs + (count_over (is_release root) logs + count_over (is_posted root) logs)
     ≡ count_over (is_born root) logs + (count_over (is_retain root) logs + count_over (is_fetched root) logs)
 sums root [] h = refl
@@ -131,6 +131,7 @@ sums root (es ∷ logs) h =
     omega (arith, count-balances root 0 es h.0, gained-in root es, lost-in root es, sums root logs h.1)
 
 -- the total is what the lanes count, with what is posted and not fetched
-pub total-is_counted : (root : RootId) (logs : List (List Entry)) → ((lane : ℕ) → CountsHold root 0 (of_lane logs lane))
+pub total-is_counted : (root : RootId) (logs : List (List ToldNote)) → ((lane : ℕ) → CountsHold root 0 (of_lane logs
+    lane))
     → TotalHolds root logs → TotalIsCounted root logs
 total-is_counted root logs h t = omega (arith, sums root logs (each-lane root logs h), t.born_once, t.never_below)

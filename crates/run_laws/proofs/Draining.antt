@@ -9,9 +9,9 @@ use Rattle.pool_law.specs.declared.note.Note.{Note}
 use Rattle.pool_law.specs.declared.note.Note.TheVariants.{At, Ref, Busy}
 use Rattle.pool_law.specs.Same.{same_object}
 use Rattle.pool_law.specs.Dids as says
-use Rattle.pool_law.specs.Readers.{Entries, Log, note}
+use Rattle.pool_law.specs.Readers.{ToldNotes, Log, note}
 use Rattle.pool_law.specs.Patterns.{give_back, sheds, drain}
-use Rattle.arena_law.proofs.GiveSteps.{IsOne}
+use Rattle.arena_laws.proofs.GiveSteps.{IsOne}
 use Rattle.run_laws.proofs.Numbered.{at_object, plain}
 use Rattle.run_laws.proofs.Acts.{sum_notes, notes-append, IsOther, Less}
 use Rattle.run_laws.proofs.Readings.{bind-some, note-read, give_back-read}
@@ -118,7 +118,7 @@ many-if true q = sym (many-one q)
 many-if false q = sym (many-none q)
 
 -- at an object: what may be shed is shed, between what was left before and what is left after
-abbrev pub Even : Object → Entries → Entries → Type 0
+abbrev pub Even : Object → ToldNotes → ToldNotes → Type 0
 Even o es rest =
     sum_notes (at_object o (plain grant)) es + sum_notes (at_object o (plain shed_one)) rest
     ≡ sum_notes (at_object o (plain shed_one)) es + sum_notes (at_object o (plain grant)) rest
@@ -126,7 +126,7 @@ Even o es rest =
 pub even-chain : (o : Object) → Chains (Even o)
 even-chain o = record { none = λ es. omega arith; more = λ es mid rest a b. omega (arith, a, b); front = front }
   where
-    front : (es rest : Entries) → Even o es [] → Even o (es ++ rest) rest
+    front : (es rest : ToldNotes) → Even o es [] → Even o (es ++ rest) rest
     front es rest a =
         let same : sum_notes (at_object o (plain grant)) es + 0 ≡ sum_notes (at_object o (plain shed_one)) es + 0 = a in
         omega (

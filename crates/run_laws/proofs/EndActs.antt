@@ -12,9 +12,9 @@ use Rattle.pool_law.specs.declared.run.Shape.{Shape}
 use Rattle.pool_law.specs.declared.run.Reply.{Reply}
 use Rattle.pool_law.specs.Limits.{has_cache}
 use Rattle.pool_law.specs.Same.{same_root, same_region}
-use Rattle.pool_law.specs.Logs.{Entry}
+use Rattle.pool_law.specs.Logs.{ToldNote}
 use Rattle.pool_law.specs.Dids as says
-use Rattle.pool_law.specs.Readers.{Entries, Log, ◌>>◌, give, nothing, done_at, marked, note, step, busy, ending}
+use Rattle.pool_law.specs.Readers.{ToldNotes, Log, ◌>>◌, give, nothing, done_at, marked, note, step, busy, ending}
 use Rattle.pool_law.specs.Patterns.{give_back, not_kept, offer, put_away, end_of, release}
 use Rattle.pool_law.proofs.SameLemmas.{same_root-is, same_region-is}
 use Rattle.run_laws.proofs.Acts.{IsStill, IsStep, IsQuiet, AreQuiet, PutsAway, IsAt, Ending, before, Acts, acts-then, end-act}
@@ -25,16 +25,16 @@ use Rattle.run_laws.proofs.RootActs.{acts-chain, step-acts, ended-is, vacated-is
 
 module _ (P : Object → Did → Type 0) where
   -- what puts a region away, and a refusal or none before it
-  pub record Away (r : RegionId) (es rest : Entries) : Type 0 where
-    pub refused : Option Entry
+  pub record Away (r : RegionId) (es rest : ToldNotes) : Type 0 where
+    pub refused : Option ToldNote
     pub quiet : AreQuiet P refused
-    pub away : Entry
+    pub away : ToldNote
     pub did : Did
     pub away_is : IsAt did away.note
     pub puts_away : PutsAway r did
     pub are : es ≡ before refused (away ∷ rest)
 
-  pub give_back-away : (r : RegionId) (refused : Option Entry) (es : Entries) (log : Log) (p : Unit {0} × Log)
+  pub give_back-away : (r : RegionId) (refused : Option ToldNote) (es : ToldNotes) (log : Log) (p : Unit {0} × Log)
       → AreQuiet P refused → es ≡ before refused log.left → give_back r log ≡ Some p → Away r es p.1.left
   give_back-away r refused es log p quiet here is =
       let g = give_back-read r log p is in
@@ -51,8 +51,8 @@ module _ (P : Object → Did → Type 0) where
       }
 
   -- a cache does not keep the region: one quiet note
-  pub record Refuses (es rest : Entries) : Type 0 where
-    pub entry : Entry
+  pub record Refuses (es rest : ToldNotes) : Type 0 where
+    pub entry : ToldNote
     pub quiet : IsQuiet P entry.note
     pub are : es ≡ entry ∷ rest
 
@@ -122,8 +122,8 @@ module _ (P : Object → Did → Type 0) where
   end-is root (End other) u e = ap End (sym (same_root-is root other (check-true (same_root root other) u e)))
   end-is root _ u e = absurd (cc e)
 
-  pub record EndRead (root : RootId) (r : RegionId) (es rest : Entries) : Type 0 where
-    pub entry : Entry
+  pub record EndRead (root : RootId) (r : RegionId) (es rest : ToldNotes) : Type 0 where
+    pub entry : ToldNote
     pub is : IsAt (End root) entry.note
     pub out : entry.region ≡ Some r
     pub are : es ≡ entry ∷ rest

@@ -8,7 +8,7 @@ use Rattle.pool_law.specs.declared.note.Did.TheVariants.{Get}
 use Rattle.pool_law.specs.declared.note.Note.TheVariants.{At}
 use Rattle.pool_law.specs.declared.run.Reply.{Reply}
 use Rattle.pool_law.specs.declared.id.Part.{Part}
-use Rattle.pool_law.specs.Logs.{Entry, own, numbered, of_lane, entry_of, entries_of, history_of}
+use Rattle.pool_law.specs.Logs.{ToldNote, own, numbered, of_lane, entry_of, entries_of, history_of}
 use Rattle.pool_law.specs.LaneStates.{LaneState}
 use Rattle.pool_law.specs.LaneLaw.{IsLaneLog}
 use Rattle.pool_law.specs.Legal.{logs_of, replies_of}
@@ -23,7 +23,7 @@ use Rattle.run_laws.proofs.LogEntries.{entry-note}
 pub stale-read : ReadsGiveWritten stale → ⊥
 stale-read reads = go (reads 0 3 (Command.Get 0 0 1 false) (0 ∷ []) refl refl)
   where
-    second : Entry
+    second : ToldNote
     second = entry_of (logs_of stale) (At (Object.Root 0) 4 (Get 0 (0 ∷ [])))
 
     one : (part : Part) (b : List ℕ) → GetsPart (logs_of stale) part second b → (0 ∷ []) ≡ b → ⊥
@@ -72,10 +72,10 @@ swapped-read reads = go (reads 0 5 (Command.Read 2 2) (2 ∷ 1 ∷ []) refl refl
     second : Part
     second = record { root = byte_root 1; offset = 0; len = 1 }
 
-    of_second : Entry
+    of_second : ToldNote
     of_second = entry_of (logs_of swapped) (At (Object.Root 1) 3 (Get 0 (2 ∷ [])))
 
-    of_first : Entry
+    of_first : ToldNote
     of_first = entry_of (logs_of swapped) (At (Object.Root 0) 3 (Get 0 (1 ∷ [])))
 
     wrong : (bs : List (List ℕ)) → GetsParts (logs_of swapped) (first ∷ second ∷ []) (of_second ∷ of_first ∷ []) bs → ⊥

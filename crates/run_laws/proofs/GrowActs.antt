@@ -13,10 +13,10 @@ use Rattle.pool_law.specs.declared.run.Reply.{Reply}
 use Rattle.pool_law.specs.Limits.{geometry_of}
 use Rattle.pool_law.specs.Same.{same_region}
 use Rattle.pool_law.specs.Counts.{root_is}
-use Rattle.pool_law.specs.Logs.{Entry}
+use Rattle.pool_law.specs.Logs.{ToldNote}
 use Rattle.pool_law.specs.Options.{check}
 use Rattle.pool_law.specs.Dids as says
-use Rattle.pool_law.specs.Readers.{Entries, Log, ◌>>=◌, ◌>>◌, give, given, done_at, access, growth}
+use Rattle.pool_law.specs.Readers.{ToldNotes, Log, ◌>>=◌, ◌>>◌, give, given, done_at, access, growth}
 use Rattle.pool_law.specs.Patterns.{obtain, one_more, found_room, Grown, grown, grow_with, put_away, regrow}
 use Rattle.pool_law.proofs.SameLemmas.{same_region-is, and-first, and-second}
 use Rattle.run_laws.proofs.CacheLaw.{if-some}
@@ -28,8 +28,8 @@ use Rattle.run_laws.proofs.EndActs.{Away, put_away-away}
 
 module _ (P : Object → Did → Type 0) where
   -- one note that moves no region
-  pub record OneStill (es rest : Entries) : Type 0 where
-    pub entry : Entry
+  pub record OneStill (es rest : ToldNotes) : Type 0 where
+    pub entry : ToldNote
     pub quiet : IsQuiet P entry.note
     pub are : es ≡ entry ∷ rest
 
@@ -79,8 +79,8 @@ module _ (P : Object → Did → Type 0) where
       λ i. Grow (sym number i) (sym region i)
   grow-is size r _ u e = absurd (cc e)
 
-  pub record GrowthRead (size : ℕ) (r old : RegionId) (es rest : Entries) : Type 0 where
-    pub entry : Entry
+  pub record GrowthRead (size : ℕ) (r old : RegionId) (es rest : ToldNotes) : Type 0 where
+    pub entry : ToldNote
     pub is : IsAt (Grow size r) entry.note
     pub out : entry.region ≡ Some old
     pub are : es ≡ entry ∷ rest
@@ -108,7 +108,7 @@ module _ (P : Object → Did → Type 0) where
       }
 
   -- the root grows into a region, or is found to have so much without it
-  abbrev pub GrownBy : ℕ → RegionId → RegionId → Entries → Entries → Type 0
+  abbrev pub GrownBy : ℕ → RegionId → RegionId → ToldNotes → ToldNotes → Type 0
   GrownBy size r spare es rest =
       GrowthRead size (one_more r) spare es rest ⊎ (OneStill es rest × (spare ≡ r))
 
@@ -132,7 +132,7 @@ module _ (P : Object → Did → Type 0) where
       ((found_room root size >>= (λ k. give (record { capacity = k; spare = r }))) log) p is)
 
   -- a region in hand is grown into or spared, and a region is put away
-  with-away : (size : ℕ) (r : RegionId) (spare : RegionId) (es mid rest last : Entries)
+  with-away : (size : ℕ) (r : RegionId) (spare : RegionId) (es mid rest last : ToldNotes)
       → GotBy P (Some r) es mid → GrownBy size r spare mid rest → Away P spare rest last → Acts P es last
   with-away size r spare es mid rest last got (inl g) a =
       let growing : Growing got.got g.entry a.away =
@@ -167,7 +167,7 @@ module _ (P : Object → Did → Type 0) where
       (spare-act got.got n.0.entry a.refused a.away n.0.quiet a.quiet sparing (got.got ∷ mid) last
       (ap (λ xs. got.got ∷ xs) (n.0.are ∙ ap (λ xs. n.0.entry ∷ xs) a.are)))
 
-  pub grow_with-acts : (root : RootId) (size : ℕ) (o : Option RegionId) (es : Entries) (log : Log)
+  pub grow_with-acts : (root : RootId) (size : ℕ) (o : Option RegionId) (es : ToldNotes) (log : Log)
       (p : Result ℕ Reply × Log) → GotBy P o es log.left → grow_with root size o log ≡ Some p → Acts P es p.1.left
   grow_with-acts root size None es log p got is =
       acts-then es log.left p.1.left got (keeps-give (acts-chain P) (Err Reply.Full) log p is)

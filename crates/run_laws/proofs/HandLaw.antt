@@ -10,9 +10,9 @@ use Rattle.pool_law.specs.declared.note.Note.{Note}
 use Rattle.pool_law.specs.declared.note.Note.TheVariants.{At, Ref, Busy}
 use Rattle.pool_law.specs.declared.run.Shape.{Shape}
 use Rattle.pool_law.specs.declared.run.Answered.{Answered}
-use Rattle.pool_law.specs.Logs.{Entry}
+use Rattle.pool_law.specs.Logs.{ToldNote}
 use Rattle.pool_law.specs.Options.{◌>>=◌}
-use Rattle.pool_law.specs.Readers.{Entries}
+use Rattle.pool_law.specs.Readers.{ToldNotes}
 use Rattle.pool_law.specs.Patterns.{one_more}
 use Rattle.pool_law.specs.LaneLaw.{IsLaneLog}
 use Rattle.run_laws.specs.Hands.{did_of, Source, Got, Ended, Dropped, Hand, hand_if, hand_step, hand_after}
@@ -23,7 +23,7 @@ use Rattle.run_laws.proofs.LaneActs.{AnyNote, any-acts}
 abbrev pub holding : Source → RegionId → Hand
 holding from r = Some (from, r)
 
-pub hand-over : (h k : Hand) (e : Entry) (es : Entries) → hand_step h e ≡ Some k
+pub hand-over : (h k : Hand) (e : ToldNote) (es : ToldNotes) → hand_step h e ≡ Some k
     → hand_after h (e ∷ es) ≡ hand_after k es
 hand-over h k e es step = ap (λ o. o >>= (λ m. hand_after m es)) step
 
@@ -72,8 +72,8 @@ away-hand Ended r t _ may puts = absurd puts
 away-hand Dropped r t d may puts = absurd may
 
 -- a region in hand is put away, perhaps after a refusal
-pub put-away : (P : Object → Did → Type 0) (from : Source) (r : RegionId) (d : Did) (refused : Option Entry)
-    (away : Entry) (es : Entries) → MayPut from → AreQuiet P refused → IsAt d away.note → PutsAway r d
+pub put-away : (P : Object → Did → Type 0) (from : Source) (r : RegionId) (d : Did) (refused : Option ToldNote)
+    (away : ToldNote) (es : ToldNotes) → MayPut from → AreQuiet P refused → IsAt d away.note → PutsAway r d
     → hand_after (holding from r) (before refused (away ∷ []) ++ es) ≡ hand_after None es
 put-away P from r d refused away es may quiet at puts = go refused quiet
   where
@@ -82,7 +82,7 @@ put-away P from r d refused away es may quiet at puts = go refused quiet
         hand-over (holding from r) None away es
         (ap (λ n. hand_if (holding from r) away.region (did_of n)) at.is ∙ away-hand from r away.region d may puts)
 
-    go : (o : Option Entry) → AreQuiet P o → hand_after (holding from r) (before o (away ∷ []) ++ es)
+    go : (o : Option ToldNote) → AreQuiet P o → hand_after (holding from r) (before o (away ∷ []) ++ es)
         ≡ hand_after None es
     go None q = put
     go (Some x) q =
@@ -90,7 +90,7 @@ put-away P from r d refused away es may quiet at puts = go refused quiet
         (quiet-hand P (holding from r) x.region x.note q) ∙ put
 
 -- each act begins and ends with an empty hand
-pub act-hand : (P : Object → Did → Type 0) (a : Act P) (es : Entries)
+pub act-hand : (P : Object → Did → Type 0) (a : Act P) (es : ToldNotes)
     → hand_after None (act_notes a ++ es) ≡ hand_after None es
 act-hand P (Act.Quiet e quiet) es = hand-over None None e es (quiet-hand P None e.region e.note quiet)
 act-hand P (Act.Births got birth set b) es =
@@ -129,9 +129,9 @@ act-hand P (Act.Sheds shed given x) es =
     (ap (λ n. hand_if (holding Dropped x.region) given.region (did_of n)) x.given_is.is
     ∙ ap (λ c. if c then Some None else None) (same_region-refl x.region))
 
-pub acts-hand : (P : Object → Did → Type 0) (es : Entries) → Acts P es [] → hand_after None es ≡ Some None
+pub acts-hand : (P : Object → Did → Type 0) (es : ToldNotes) → Acts P es [] → hand_after None es ≡ Some None
 acts-hand P es a = ap (hand_after None) a.are ∙ acts-keep (hand_after None) (act-hand P) a.acts []
 
-pub log-empty : (shape : Shape) (lane : ℕ) (commands : List Command) (replies : List Answered) (es : Entries)
+pub log-empty : (shape : Shape) (lane : ℕ) (commands : List Command) (replies : List Answered) (es : ToldNotes)
     → IsLaneLog shape lane commands replies es → hand_after None es ≡ Some None
 log-empty shape lane commands replies es log = acts-hand AnyNote es (any-acts shape lane commands replies es log)

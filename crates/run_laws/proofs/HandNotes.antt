@@ -6,7 +6,7 @@ use Rattle.pool_law.specs.declared.note.Object.{Object}
 use Rattle.pool_law.specs.declared.note.Did.{Did}
 use Rattle.pool_law.specs.declared.note.Note.{Note}
 use Rattle.pool_law.specs.declared.note.Note.TheVariants.{At, Ref, Busy}
-use Rattle.pool_law.specs.Logs.{Logs, Entry, of_lane, entry_of}
+use Rattle.pool_law.specs.Logs.{Logs, ToldNote, of_lane, entry_of}
 use Rattle.run_laws.specs.Hands.{did_of, Source, Hand, hand_after}
 use Rattle.run_laws.proofs.LogEntries.{LanesAct, entry-note, get-map, map-get}
 use Rattle.run_laws.proofs.HandLaw.{acts-hand}
@@ -36,7 +36,7 @@ note-did (Busy held) d e = absurd (cc e)
 
 module _ (logs : Logs) (acts : LanesAct logs) (lane : ℕ) where
   -- an entry of a log, as a note
-  note-of : (i : ℕ) (e : Entry) (d : Did) → slice_get (map (entry_of logs) (of_lane logs lane)) i ≡ Some e
+  note-of : (i : ℕ) (e : ToldNote) (d : Did) → slice_get (map (entry_of logs) (of_lane logs lane)) i ≡ Some e
       → did_of e.note ≡ Some d → (o : Object) × (k : ℕ) × (slice_get (of_lane logs lane) i ≡ Some (At o k d))
       × (e ≡ entry_of logs (At o k d))
   note-of i e d is did =

@@ -3,51 +3,51 @@ use Rattle.std.proofs.Common.{⊎_elim, inl, inr, ◌≡◌, ℕ, zero, suc, [],
 use Rattle.std.specs.Prelude.{◌⊎◌, ◌<◌, slice_get}
 use Rattle.pool_law.specs.declared.id.RegionId.{RegionId}
 use Rattle.pool_law.specs.declared.note.Did.{Did}
-use Rattle.pool_law.specs.Logs.{Entry}
-use Rattle.pool_law.specs.Readers.{Entries}
+use Rattle.pool_law.specs.Logs.{ToldNote}
+use Rattle.pool_law.specs.Readers.{ToldNotes}
 use Rattle.run_laws.specs.Hands.{did_of, Source, Hand, hand_step, hand_after}
 use Rattle.run_laws.proofs.HandSteps.{Fills, Empties, moving, IsIn, IsOut, InOf, OutOf, empties-move, Filled, Emptied, from-empty, from-full, in-moves, out-moves}
 use Rattle.run_laws.proofs.Readings.{bind-some}
 
 -- a note that comes into the hand at one place, and the next that moves a region, which puts it down
-abbrev pub StillBetween : Entries → ℕ → ℕ → Type 0
-StillBetween es j k = (m : ℕ) (e : Entry) → j < m → m < k → slice_get es m ≡ Some e → moving (did_of e.note) ≡ false
+abbrev pub StillBetween : ToldNotes → ℕ → ℕ → Type 0
+StillBetween es j k = (m : ℕ) (e : ToldNote) → j < m → m < k → slice_get es m ≡ Some e → moving (did_of e.note) ≡ false
 
-pub record Out (es : Entries) (k : ℕ) (from : Source) (y : RegionId) : Type 0 where
-  pub entry : Entry
+pub record Out (es : ToldNotes) (k : ℕ) (from : Source) (y : RegionId) : Type 0 where
+  pub entry : ToldNote
   pub there : slice_get es k ≡ Some entry
   pub did : Did
   pub is : did_of entry.note ≡ Some did
   pub empties : Empties from y did
 
-pub record In (es : Entries) (j : ℕ) (from : Source) (y : RegionId) : Type 0 where
-  pub entry : Entry
+pub record In (es : ToldNotes) (j : ℕ) (from : Source) (y : RegionId) : Type 0 where
+  pub entry : ToldNote
   pub there : slice_get es j ≡ Some entry
   pub did : Did
   pub is : did_of entry.note ≡ Some did
   pub fills : Fills from y entry.region did
 
-pub record Pair (es : Entries) (j k : ℕ) (from : Source) (y : RegionId) : Type 0 where
+pub record Pair (es : ToldNotes) (j k : ℕ) (from : Source) (y : RegionId) : Type 0 where
   pub into : In es j from y
   pub out : Out es k from y
   pub order : j < k
   pub still : StillBetween es j k
 
 -- a region in hand goes out with the next note that moves one
-pub record Next (es : Entries) (from : Source) (y : RegionId) : Type 0 where
+pub record Next (es : ToldNotes) (from : Source) (y : RegionId) : Type 0 where
   pub at : ℕ
   pub out : Out es at from y
-  pub still : (m : ℕ) (e : Entry) → m < at → slice_get es m ≡ Some e → moving (did_of e.note) ≡ false
+  pub still : (m : ℕ) (e : ToldNote) → m < at → slice_get es m ≡ Some e → moving (did_of e.note) ≡ false
 
-first-out : (e : Entry) (es : Entries) (from : Source) (y : RegionId) → Emptied from y (did_of e.note)
+first-out : (e : ToldNote) (es : ToldNotes) (from : Source) (y : RegionId) → Emptied from y (did_of e.note)
     → Out (e ∷ es) 0 from y
 first-out e es from y m = record { entry = e; there = refl; did = m.did; is = m.is; empties = m.empties }
 
-later-out : (e : Entry) (es : Entries) (k : ℕ) (from : Source) (y : RegionId) → Out es k from y
+later-out : (e : ToldNote) (es : ToldNotes) (k : ℕ) (from : Source) (y : RegionId) → Out es k from y
     → Out (e ∷ es) (suc k) from y
 later-out e es k from y o = record { entry = o.entry; there = o.there; did = o.did; is = o.is; empties = o.empties }
 
-pub next-out : (es : Entries) (from : Source) (y : RegionId) → hand_after (Some (from, y)) es ≡ Some None
+pub next-out : (es : ToldNotes) (from : Source) (y : RegionId) → hand_after (Some (from, y)) es ≡ Some None
     → Next es from y
 next-out [] from y h = absurd (cc h)
 next-out (e ∷ es) from y h =
@@ -63,7 +63,7 @@ next-out (e ∷ es) from y h =
     })
     (from-full from y e.region (did_of e.note) s.0 s.1)
   where
-    below : (m : ℕ) (x : Entry) → moving (did_of e.note) ≡ false → (r : Next es from y) → m < suc r.at
+    below : (m : ℕ) (x : ToldNote) → moving (did_of e.note) ≡ false → (r : Next es from y) → m < suc r.at
         → slice_get (e ∷ es) m ≡ Some x → moving (did_of x.note) ≡ false
     below zero x quiet r less is = let same : e ≡ x = cc is in ap (λ y. moving (did_of y.note)) (sym same) ∙ quiet
     below (suc m) x quiet r less is = r.still m x (omega (arith, less)) is
@@ -72,7 +72,7 @@ pub compare : (a b : ℕ) → (a < b) ⊎ ((a ≡ b) ⊎ (b < a))
 compare a b = grind arith
 
 -- behind an entry
-pub later-pair : (e : Entry) (es : Entries) (j k : ℕ) (from : Source) (y : RegionId) → Pair es j k from y
+pub later-pair : (e : ToldNote) (es : ToldNotes) (j k : ℕ) (from : Source) (y : RegionId) → Pair es j k from y
     → Pair (e ∷ es) (suc j) (suc k) from y
 later-pair e es j k from y p =
     record {
@@ -87,7 +87,7 @@ later-pair e es j k from y p =
     between zero x low high is = absurd (omega (arith, low))
     between (suc m) x low high is = p.still m x (omega (arith, low)) (omega (arith, high)) is
 
-pub first-pair : (e : Entry) (es : Entries) (did : Did) (from : Source) (y : RegionId) → did_of e.note ≡ Some did
+pub first-pair : (e : ToldNote) (es : ToldNotes) (did : Did) (from : Source) (y : RegionId) → did_of e.note ≡ Some did
     → Fills from y e.region did → (r : Next es from y) → Pair (e ∷ es) 0 (suc r.at) from y
 first-pair e es did from y is fills r =
     record {
@@ -108,13 +108,13 @@ pub no-both : (b : Bool) → b ≡ true → b ≡ false → ⊥
 no-both b yes_b no_b = let same : true ≡ false = sym yes_b ∙ no_b in cc same
 
 -- each note that comes into the hand
-pub record Onward (es : Entries) (j : ℕ) : Type 0 where
+pub record Onward (es : ToldNotes) (j : ℕ) : Type 0 where
   pub to : ℕ
   pub from : Source
   pub region : RegionId
   pub pair : Pair es j to from region
 
-filled-onward : (e : Entry) (es : Entries) (k : Hand) → Filled e.region (did_of e.note) k
+filled-onward : (e : ToldNote) (es : ToldNotes) (k : Hand) → Filled e.region (did_of e.note) k
     → hand_after k es ≡ Some None → Onward (e ∷ es) 0
 filled-onward e es k f rest =
     let r : Next es f.from f.region = next-out es f.from f.region (ap (λ h. hand_after h es) (sym f.held) ∙ rest) in
@@ -125,7 +125,7 @@ filled-onward e es k f rest =
       pair = first-pair e es f.did f.from f.region f.is f.fills r;
     }
 
-pub pair-from : (es : Entries) (h : Hand) (j : ℕ) (x : Entry) (d : Did) → hand_after h es ≡ Some None
+pub pair-from : (es : ToldNotes) (h : Hand) (j : ℕ) (x : ToldNote) (d : Did) → hand_after h es ≡ Some None
     → slice_get es j ≡ Some x → did_of x.note ≡ Some d → IsIn d → Onward es j
 pair-from [] h j x d run is did kind = absurd (cc is)
 pair-from (e ∷ es) h zero x d run is did kind =
@@ -152,21 +152,21 @@ pair-from (e ∷ es) h (suc j) x d run is did kind =
     record { to = suc r.to; from = r.from; region = r.region; pair = later-pair e es j r.to r.from r.region r.pair }
 
 -- each note that puts a region down: it was in the hand at first, or came in by a note before
-pub record Before (es : Entries) (k : ℕ) : Type 0 where
+pub record Before (es : ToldNotes) (k : ℕ) : Type 0 where
   pub at : ℕ
   pub from : Source
   pub region : RegionId
   pub pair : Pair es at k from region
 
-pub record AtFirst (es : Entries) (h : Hand) (k : ℕ) : Type 0 where
+pub record AtFirst (es : ToldNotes) (h : Hand) (k : ℕ) : Type 0 where
   pub from : Source
   pub region : RegionId
   pub held : h ≡ Some (from, region)
   pub out : Out es k from region
-  pub still : (m : ℕ) (e : Entry) → m < k → slice_get es m ≡ Some e → moving (did_of e.note) ≡ false
+  pub still : (m : ℕ) (e : ToldNote) → m < k → slice_get es m ≡ Some e → moving (did_of e.note) ≡ false
 
 -- what fills the hand that is found at first behind it
-filled-before : (e : Entry) (es : Entries) (l : Hand) (k : ℕ) → Filled e.region (did_of e.note) l → AtFirst es l k
+filled-before : (e : ToldNote) (es : ToldNotes) (l : Hand) (k : ℕ) → Filled e.region (did_of e.note) l → AtFirst es l k
     → Before (e ∷ es) (suc k)
 filled-before e es l k filled f =
     let same : ◌≡◌ {A = Source × RegionId} (filled.from, filled.region) (f.from, f.region) =
@@ -182,7 +182,7 @@ filled-before e es l k filled f =
           (record { at = k; out = f.out; still = f.still });
     }
 
-pub pair-to : (es : Entries) (h : Hand) (k : ℕ) (x : Entry) (d : Did) → hand_after h es ≡ Some None
+pub pair-to : (es : ToldNotes) (h : Hand) (k : ℕ) (x : ToldNote) (d : Did) → hand_after h es ≡ Some None
     → slice_get es k ≡ Some x → did_of x.note ≡ Some d → IsOut d → AtFirst es h k ⊎ Before es k
 pair-to [] h k x d run is did kind = absurd (cc is)
 pair-to (e ∷ es) h zero x d run is did kind =
@@ -220,7 +220,7 @@ pair-to (e ∷ es) h (suc k) x d run is did kind =
     }))
     (pair-to es s.0 k x d s.2 is did kind)
   where
-    below : moving (did_of e.note) ≡ false → (l : Hand) → (f : AtFirst es l k) → (m : ℕ) (y : Entry) → m < suc k
+    below : moving (did_of e.note) ≡ false → (l : Hand) → (f : AtFirst es l k) → (m : ℕ) (y : ToldNote) → m < suc k
         → slice_get (e ∷ es) m ≡ Some y → moving (did_of y.note) ≡ false
     below quiet l f zero y less is = let same : e ≡ y = cc is in ap (λ z. moving (did_of z.note)) (sym same) ∙ quiet
     below quiet l f (suc m) y less is = f.still m y (omega (arith, less)) is
@@ -247,7 +247,7 @@ pair-to (e ∷ es) h (suc k) x d run is did kind =
         (from-full held.0 held.1 e.region (did_of e.note) l step)
 
 -- a note comes into the hand for one note that puts it down
-pub one-out : (es : Entries) (j k l : ℕ) (from of : Source) (y z : RegionId) → Pair es j k from y → Pair es j l of z
+pub one-out : (es : ToldNotes) (j k l : ℕ) (from of : Source) (y z : RegionId) → Pair es j k from y → Pair es j l of z
     → k ≡ l
 one-out es j k l from of y z p q =
     ⊎_elim

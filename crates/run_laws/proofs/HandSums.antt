@@ -6,7 +6,7 @@ use Rattle.pool_law.specs.declared.note.Did.{Did}
 use Rattle.pool_law.specs.declared.note.Did.TheVariants.{Take, Give, Hit, Kept, Shed, Birth, Grow, End}
 use Rattle.pool_law.specs.Same.{same_taking, same_region}
 use Rattle.run_laws.specs.CacheCounts.{one_of}
-use Rattle.pool_law.specs.Readers.{Entries}
+use Rattle.pool_law.specs.Readers.{ToldNotes}
 use Rattle.pool_law.specs.Patterns.{one_more}
 use Rattle.run_laws.specs.Hands.{did_of, Source, Got, Ended, Dropped, Hand, hand_by, hand_if, hand_step, hand_after}
 use Rattle.run_laws.specs.HandCounts.{tally_if, tally, got_by, used_by, ended_by, shed_by, kept_by, given_by, HandsBalance}
@@ -142,12 +142,12 @@ step-balanced r h k t _ e =
     let same : h ≡ k = cc e in
     subst (λ y. Balance r h y 0 0 0 0 0 0) same (omega arith, (omega arith, omega arith))
 
-abbrev pub BalanceOver : RegionId → Hand → Hand → Entries → Type 0
+abbrev pub BalanceOver : RegionId → Hand → Hand → ToldNotes → Type 0
 BalanceOver r h k es =
     Balance r h k (tally (got_by r) es) (tally (ended_by r) es) (tally (shed_by r) es) (tally (used_by r) es)
     (tally (kept_by r) es) (tally (given_by r) es)
 
-pub after-balanced : (r : RegionId) (es : Entries) (h k : Hand) → hand_after h es ≡ Some k → BalanceOver r h k es
+pub after-balanced : (r : RegionId) (es : ToldNotes) (h k : Hand) → hand_after h es ≡ Some k → BalanceOver r h k es
 after-balanced r [] h k e =
     let same : h ≡ k = cc e in
     subst (λ y. Balance r h y 0 0 0 0 0 0) same (omega arith, (omega arith, omega arith))
@@ -172,7 +172,7 @@ after-balanced r (e ∷ es) h k is =
         let b : Balanced r h m e.region d = step-balanced r h m e.region d same in
         (omega (arith, b.0, rest.0), (omega (arith, b.1.0, rest.1.0), omega (arith, b.1.1, rest.1.1)))
 
-pub hands-balance : (r : RegionId) (es : Entries) → hand_after None es ≡ Some None → HandsBalance r es
+pub hands-balance : (r : RegionId) (es : ToldNotes) → hand_after None es ≡ Some None → HandsBalance r es
 hands-balance r es e =
     let b : BalanceOver r None None es = after-balanced r es None None e in
     record { through = omega (arith, b.0); got = omega (arith, b.1.0); given = omega (arith, b.1.1) }

@@ -27,7 +27,7 @@ use Rattle.run_laws.proofs.HandLaw.{acts-hand}
 use Rattle.run_laws.proofs.HandSums.{hands-balance}
 use Rattle.pool_law.proofs.SameLemmas.{same_region-is}
 use Rattle.run_laws.proofs.CacheLaw.{goes-through}
-use Rattle.arena_law.proofs.TakingLaw.{takings-in_order}
+use Rattle.arena_laws.proofs.TakingLaw.{takings-in_order}
 use Rattle.pool_law.proofs.HistoryLemmas.{over_lanes}
 use Rattle.run_laws.proofs.Sums.{sum_by, sum_over, over-at, over-alike, over-plus, over-many, above}
 use Rattle.run_laws.proofs.Numbered.{plain, total-plain, at_object, regroup, in-history}

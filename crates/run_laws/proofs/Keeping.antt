@@ -3,7 +3,7 @@ use Rattle.std.proofs.Common.{⊎_elim, ◌≡◌, ℕ, [], ◌++◌, subst, Boo
 use Rattle.std.specs.Prelude.{if◌then◌else◌, Option, nat_le, option_and_then}
 use Rattle.pool_law.specs.declared.id.RootId.{RootId}
 use Rattle.pool_law.specs.Counts.{count_of}
-use Rattle.pool_law.specs.Readers.{Entries, Log, Reader, ◌>>=◌, ◌>>◌, ◌or◌, give, given, count, asks, asks_anew, nothing, read_all}
+use Rattle.pool_law.specs.Readers.{ToldNotes, Log, Reader, ◌>>=◌, ◌>>◌, ◌or◌, give, given, count, asks, asks_anew, nothing, read_all}
 use Rattle.run_laws.proofs.Readings.{bind-some, or-some, map-some, take-drop, read_all-is}
 use Rattle.size_classes.specs.Sizes.{below}
 use Rattle.pool_law.specs.declared.command.Command.{Command}
@@ -16,18 +16,18 @@ use Rattle.pool_law.specs.LaneStates.{LaneState, new_lane, log_at, state_at}
 use Rattle.pool_law.specs.Patterns.{drain, sweep, sweep_if_due}
 use Rattle.pool_law.specs.Lanes.{not_carried_out, answer_of, turn}
 use Rattle.pool_law.specs.LaneLaw.{sweep_period, lane_step, lane_run, before_stop, stopped_run, pieces, behind, note_counts, replies_in, closes, IsLaneLog}
-use Rattle.arena_law.specs.Slots.{EachOf}
+use Rattle.arena_laws.specs.Slots.{EachOf}
 
-pub record Chains (R : Entries → Entries → Type 0) : Type 0 where
-  pub none : (es : Entries) → R es es
-  pub more : (es mid rest : Entries) → R es mid → R mid rest → R es rest
-  pub front : (es rest : Entries) → R es [] → R (es ++ rest) rest
+pub record Chains (R : ToldNotes → ToldNotes → Type 0) : Type 0 where
+  pub none : (es : ToldNotes) → R es es
+  pub more : (es mid rest : ToldNotes) → R es mid → R mid rest → R es rest
+  pub front : (es rest : ToldNotes) → R es [] → R (es ++ rest) rest
 
 -- a reading keeps to R
-abbrev pub Keeps : {A : Type 0} → (Entries → Entries → Type 0) → Reader A → Type 0
+abbrev pub Keeps : {A : Type 0} → (ToldNotes → ToldNotes → Type 0) → Reader A → Type 0
 Keeps {A} R r = (log : Log) (p : A × Log) → r log ≡ Some p → R log.left p.1.left
 
-module _ {R : Entries → Entries → Type 0} (c : Chains R) where
+module _ {R : ToldNotes → ToldNotes → Type 0} (c : Chains R) where
   pub keeps-give : {A : Type 0} (a : A) → Keeps R (give a)
   keeps-give {A} a log p is =
       let same : ◌≡◌ {A = A × Log} (a, log) p = cc is in subst (λ q. R log.left q.1.left) same (c.none log.left)
@@ -68,7 +68,7 @@ module _ {R : Entries → Entries → Type 0} (c : Chains R) where
 
 -- ---- A whole log.
 
-module _ {R : Entries → Entries → Type 0} (c : Chains R) where
+module _ {R : ToldNotes → ToldNotes → Type 0} (c : Chains R) where
   -- a sweep that is due, or none
   pub keeps-sweep_if_due : (period lane : ℕ) → Keeps R (sweep lane) → Keeps R (sweep_if_due period lane)
   keeps-sweep_if_due period lane h =
@@ -83,7 +83,7 @@ module _ {R : Entries → Entries → Type 0} (c : Chains R) where
       (λ a. keeps-then c (sweep_if_due period lane) (give a) (keeps-sweep_if_due period lane k) (keeps-give c a))
 
   -- of a command's own notes
-  pub step-keeps : (period : ℕ) (shape : Shape) (lane : ℕ) (s : LaneState) (command : Command) (es : Entries)
+  pub step-keeps : (period : ℕ) (shape : Shape) (lane : ℕ) (s : LaneState) (command : Command) (es : ToldNotes)
       (p : Reply × LaneState) → Keeps R (turn period shape lane s command)
       → lane_step period shape lane s command es ≡ Some p → R es []
   step-keeps period shape lane s command es p h is =
@@ -97,7 +97,7 @@ module _ {R : Entries → Entries → Type 0} (c : Chains R) where
   TurnKeeps shape lane command =
       ((s : LaneState) → Keeps R (turn sweep_period shape lane s command)) × Keeps R (not_carried_out lane command)
 
-  pub run-keeps : (shape : Shape) (lane : ℕ) (s : LaneState) (cs : List Command) (groups : List Entries)
+  pub run-keeps : (shape : Shape) (lane : ℕ) (s : LaneState) (cs : List Command) (groups : List ToldNotes)
       (p : List Reply × LaneState) → EachOf (TurnKeeps shape lane) cs
       → lane_run sweep_period shape lane s cs groups ≡ Some p → EachOf (λ es. R es []) groups
   run-keeps shape lane s [] [] p h is = tt
@@ -109,7 +109,7 @@ module _ {R : Entries → Entries → Type 0} (c : Chains R) where
       let r = bind-some (lane_run sweep_period shape lane f.0.1 cs groups) (λ z. Some (f.0.0 ∷ z.0, z.1)) p f.2 in
       (step-keeps sweep_period shape lane s x g f.0 (h.0.0 s) f.1, run-keeps shape lane f.0.1 cs groups r.0 h.1 r.1)
 
-  pub stopped-keeps : (shape : Shape) (lane : ℕ) (cs : List Command) (groups : List Entries) (p : List Reply)
+  pub stopped-keeps : (shape : Shape) (lane : ℕ) (cs : List Command) (groups : List ToldNotes) (p : List Reply)
       → EachOf (TurnKeeps shape lane) cs → stopped_run lane cs groups ≡ Some p → EachOf (λ es. R es []) groups
   stopped-keeps shape lane [] [] p h is = tt
   stopped-keeps shape lane [] (g ∷ groups) p h is = absurd (cc is)
@@ -121,7 +121,7 @@ module _ {R : Entries → Entries → Type 0} (c : Chains R) where
       let a = read_all-is (not_carried_out lane x) (log_at new_lane g) f.0 f.1 in
       (subst (R g) a.1 (h.0.1 (log_at new_lane g) f.0 a.0), stopped-keeps shape lane cs groups r.0 h.1 r.1)
 
-  pub pieces-keep : (ns : List ℕ) (es : Entries) → EachOf (λ es. R es []) (pieces ns es) → R es (behind ns es)
+  pub pieces-keep : (ns : List ℕ) (es : ToldNotes) → EachOf (λ es. R es []) (pieces ns es) → R es (behind ns es)
   pieces-keep [] es h = c.none es
   pieces-keep (n ∷ ns) es h =
       let one : R (take n es ++ drop n es) (drop n es) = c.front (take n es) (drop n es) h.0 in
@@ -129,7 +129,7 @@ module _ {R : Entries → Entries → Type 0} (c : Chains R) where
       (pieces-keep ns (drop n es) h.1)
 
   -- of all that a lane notes before it closes its caches
-  pub log-keeps : (shape : Shape) (lane : ℕ) (commands : List Command) (replies : List Answered) (es : Entries)
+  pub log-keeps : (shape : Shape) (lane : ℕ) (commands : List Command) (replies : List Answered) (es : ToldNotes)
       → EachOf (TurnKeeps shape lane) commands → IsLaneLog shape lane commands replies es
       → R es (behind (note_counts replies) es)
   log-keeps shape lane commands replies es h log =
@@ -161,7 +161,7 @@ module _ {R : Entries → Entries → Type 0} (c : Chains R) where
       each-both Q (suc n) (x ∷ xs) a b = (a.0, each-both Q n xs a.1 b)
 
 -- the closing of a lane's caches reads all that is left
-pub closes-is : (lane : ℕ) (es : Entries) → closes lane es ≡ Some tt
+pub closes-is : (lane : ℕ) (es : ToldNotes) → closes lane es ≡ Some tt
     → (p : Unit {0} × Log) × (drain lane says.close (below cached_classes) (log_at new_lane es) ≡ Some p)
     × (p.1.left ≡ [])
 closes-is lane es is =

@@ -11,11 +11,11 @@ use Rattle.pool_law.specs.declared.run.Shape.{Shape}
 use Rattle.pool_law.specs.declared.run.Answered.{Answered}
 use Rattle.pool_law.specs.Limits.{cached_classes}
 use Rattle.pool_law.specs.Dids as says
-use Rattle.pool_law.specs.Readers.{Entries, ◌>>◌, note}
+use Rattle.pool_law.specs.Readers.{ToldNotes, ◌>>◌, note}
 use Rattle.pool_law.specs.LaneStates.{new_lane, log_at}
 use Rattle.pool_law.specs.Patterns.{give_back, sheds, drain, sweep}
 use Rattle.pool_law.specs.LaneLaw.{sweep_period, behind, note_counts, IsLaneLog}
-use Rattle.arena_law.specs.Slots.{EachOf}
+use Rattle.arena_laws.specs.Slots.{EachOf}
 use Rattle.run_laws.proofs.Acts.{IsStill, Act, Acts, acts-then, one-act, Shedding}
 use Rattle.run_laws.proofs.Readings.{bind-some, note-read, give_back-read}
 use Rattle.run_laws.proofs.Keeping.{Keeps, keeps-give, keeps-bind, keeps-then, keeps-turn, TurnKeeps, log-keeps, closes-is}
@@ -97,13 +97,13 @@ module _ (P : Object → Did → Type 0) where
 
   -- the notes before the closing, and a whole log, are acts
   pub commands-act : MayDrain P → (shape : Shape) (lane : ℕ) (commands : List Command) (replies : List Answered)
-      (es : Entries) → EachOf (Sends P) commands → IsLaneLog shape lane commands replies es
+      (es : ToldNotes) → EachOf (Sends P) commands → IsLaneLog shape lane commands replies es
       → Acts P es (behind (note_counts replies) es)
   commands-act may shape lane commands replies es near log =
       log-keeps (acts-chain P) shape lane commands replies es (turns-act may shape lane commands near) log
 
   pub log-acts : MayDrain P → (shape : Shape) (lane : ℕ) (commands : List Command) (replies : List Answered)
-      (es : Entries) → EachOf (Sends P) commands → IsLaneLog shape lane commands replies es → Acts P es []
+      (es : ToldNotes) → EachOf (Sends P) commands → IsLaneLog shape lane commands replies es → Acts P es []
   log-acts may shape lane commands replies es near log =
       let x = closes-is lane (behind (note_counts replies) es) log.closed in
       acts-then es (behind (note_counts replies) es) [] (commands-act may shape lane commands replies es near log)
@@ -126,7 +126,7 @@ all-send (_ ∷ cs) = let r = all-send cs in ((tt, r.0), (tt, r.1))
 pub any-drain : MayDrain AnyNote
 any-drain = record { trims = λ o q. tt; closes = λ o q. tt; sheds = λ o r. tt }
 
-pub any-acts : (shape : Shape) (lane : ℕ) (commands : List Command) (replies : List Answered) (es : Entries)
+pub any-acts : (shape : Shape) (lane : ℕ) (commands : List Command) (replies : List Answered) (es : ToldNotes)
     → IsLaneLog shape lane commands replies es → Acts AnyNote es []
 any-acts shape lane commands replies es log =
     log-acts AnyNote any-drain shape lane commands replies es (all-send commands).0 log

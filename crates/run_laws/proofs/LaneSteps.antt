@@ -6,11 +6,11 @@ use Rattle.pool_law.specs.declared.note.Object.{Object}
 use Rattle.pool_law.specs.declared.note.Did.{Did}
 use Rattle.pool_law.specs.declared.run.Shape.{Shape}
 use Rattle.pool_law.specs.declared.run.Reply.{Reply}
-use Rattle.pool_law.specs.Logs.{Entry}
+use Rattle.pool_law.specs.Logs.{ToldNote}
 use Rattle.size_classes.specs.Sizes.{below}
 use Rattle.pool_law.specs.Limits.{cached_classes}
 use Rattle.pool_law.specs.Dids as says
-use Rattle.pool_law.specs.Readers.{Entries, Log, ◌>>◌, give, nothing, done_at, note, asks_anew, read_all}
+use Rattle.pool_law.specs.Readers.{ToldNotes, Log, ◌>>◌, give, nothing, done_at, note, asks_anew, read_all}
 use Rattle.pool_law.specs.LaneStates.{LaneState, new_lane, log_at, state_at}
 use Rattle.pool_law.specs.Patterns.{give_back, sheds, drain, sweep, sweep_if_due}
 use Rattle.pool_law.specs.Lanes.{Answer, not_carried_out, answer_of, turn}
@@ -75,7 +75,7 @@ no-sweep period lane log p low is = go (nat_le period log.asked) refl is
     go false due e = let same : ◌≡◌ {A = Unit {0} × Log} (tt, log) p = cc e in ap (λ q. q.1) (sym same)
 
 -- a lane's step: its answer, and the sweep behind it
-pub record Steps (period : ℕ) (shape : Shape) (lane : ℕ) (s : LaneState) (c : Command) (es : Entries)
+pub record Steps (period : ℕ) (shape : Shape) (lane : ℕ) (s : LaneState) (c : Command) (es : ToldNotes)
     (p : Reply × LaneState) : Type 0 where
   pub answered : Answer × Log
   pub by : answer_of shape lane s c (log_at s es) ≡ Some answered
@@ -85,7 +85,7 @@ pub record Steps (period : ℕ) (shape : Shape) (lane : ℕ) (s : LaneState) (c 
   pub reply : answered.0.reply ≡ p.0
   pub asked : p.1.asked ≡ swept.1.asked
 
-pub step-is : (period : ℕ) (shape : Shape) (lane : ℕ) (s : LaneState) (c : Command) (es : Entries)
+pub step-is : (period : ℕ) (shape : Shape) (lane : ℕ) (s : LaneState) (c : Command) (es : ToldNotes)
     (p : Reply × LaneState) → lane_step period shape lane s c es ≡ Some p → Steps period shape lane s c es p
 step-is period shape lane s c es p is =
     let f = bind-some (read_all (turn period shape lane s c) (log_at s es))
@@ -109,19 +109,19 @@ step-is period shape lane s c es p is =
     }
 
 -- a lane's step at one of its commands
-pub record StepAt (period : ℕ) (shape : Shape) (lane : ℕ) (s : LaneState) (cs : List Command) (groups : List Entries)
+pub record StepAt (period : ℕ) (shape : Shape) (lane : ℕ) (s : LaneState) (cs : List Command) (groups : List ToldNotes)
     (replies : List Reply) (j : ℕ) (c : Command) : Type 0 where
   pub state : LaneState
   pub low : state.asked < period
   pub before : lane_run period shape lane s (take j cs) (take j groups) ≡ Some (take j replies, state)
-  pub group : Entries
+  pub group : ToldNotes
   pub there : slice_get groups j ≡ Some group
   pub answered : Reply × LaneState
   pub reply : slice_get replies j ≡ Some answered.0
   pub step : lane_step period shape lane state c group ≡ Some answered
 
 pub lane_run-at : (period : ℕ) → 0 < period → (shape : Shape) (lane : ℕ) (s : LaneState) → s.asked < period
-    → (cs : List Command) (groups : List Entries) (p : List Reply × LaneState) (j : ℕ) (c : Command)
+    → (cs : List Command) (groups : List ToldNotes) (p : List Reply × LaneState) (j : ℕ) (c : Command)
     → lane_run period shape lane s cs groups ≡ Some p → slice_get cs j ≡ Some c
     → StepAt period shape lane s cs groups p.0 j c
 lane_run-at period some shape lane s low [] groups p j c is at = absurd (cc at)
@@ -172,7 +172,8 @@ lane_run-at period some shape lane s low (x ∷ cs) (g ∷ groups) p j c is at =
         }
 
 -- what stands in a piece of a list stands in the list
-pub piece-there : (ns : List ℕ) (es group : Entries) (j m : ℕ) (e : Entry) → slice_get (pieces ns es) j ≡ Some group
+pub piece-there : (ns : List ℕ) (es group : ToldNotes) (j m : ℕ) (e : ToldNote) → slice_get (pieces ns es) j ≡ Some
+    group
     → slice_get group m ≡ Some e → (i : ℕ) × (slice_get es i ≡ Some e)
 piece-there [] es group j m e at is = absurd (cc at)
 piece-there (n ∷ ns) es group zero m e at is =
@@ -180,7 +181,7 @@ piece-there (n ∷ ns) es group zero m e at is =
 piece-there (n ∷ ns) es group (suc j) m e at is =
     let r = piece-there ns (drop n es) group j m e at is in behind n es r.0 r.1
   where
-    behind : (n : ℕ) (es : Entries) (i : ℕ) → slice_get (drop n es) i ≡ Some e → (k : ℕ) × (slice_get es k ≡ Some e)
+    behind : (n : ℕ) (es : ToldNotes) (i : ℕ) → slice_get (drop n es) i ≡ Some e → (k : ℕ) × (slice_get es k ≡ Some e)
     behind zero es i is = (i, is)
     behind (suc n) [] i is = absurd (cc is)
     behind (suc n) (x ∷ es) i is = let r = behind n es i is in (suc r.0, r.1)
@@ -205,7 +206,7 @@ get-dropped (suc n) m zero (x ∷ xs) e = absurd (omega (arith, e))
 get-dropped (suc n) m (suc k) (x ∷ xs) e = get-dropped n m k xs (omega (arith, e))
 
 -- a stopped lane answers nothing else
-pub stopped-says : (lane : ℕ) (cs : List Command) (groups : List Entries) (replies : List Reply) (i : ℕ) (r : Reply)
+pub stopped-says : (lane : ℕ) (cs : List Command) (groups : List ToldNotes) (replies : List Reply) (i : ℕ) (r : Reply)
     → stopped_run lane cs groups ≡ Some replies → slice_get replies i ≡ Some r → r ≡ Reply.Stopped
 stopped-says lane [] [] replies i r is at =
     let same : [] ≡ replies = cc is in absurd (cc (ap (λ xs. slice_get xs i) same ∙ at))

@@ -5,16 +5,16 @@ use Rattle.size_classes.specs.Sizes.{below}
 use Rattle.pool_law.specs.declared.note.Object.{Object}
 use Rattle.pool_law.specs.Limits.{cached_classes}
 use Rattle.pool_law.specs.Dids as says
-use Rattle.pool_law.specs.Readers.{Entries}
+use Rattle.pool_law.specs.Readers.{ToldNotes}
 use Rattle.pool_law.specs.LaneStates.{new_lane, log_at}
 use Rattle.pool_law.specs.LaneLaw.{sweep_period, behind, note_counts, closes, IsLaneLog}
 use Rattle.pool_law.specs.declared.command.Command.{Command}
 use Rattle.pool_law.specs.declared.run.Shape.{Shape}
 use Rattle.pool_law.specs.declared.run.Answered.{Answered}
-use Rattle.arena_law.specs.Slots.{EachOf}
+use Rattle.arena_laws.specs.Slots.{EachOf}
 use Rattle.pool_law.proofs.HistoryLemmas.{append-nil}
-use Rattle.arena_law.proofs.GiveSteps.{IsOne}
-use Rattle.arena_law.proofs.ReturnLaw.{IsOne-front, IsOne-last}
+use Rattle.arena_laws.proofs.GiveSteps.{IsOne}
+use Rattle.arena_laws.proofs.ReturnLaw.{IsOne-front, IsOne-last}
 use Rattle.run_laws.proofs.Numbered.{at_object, plain}
 use Rattle.run_laws.proofs.Acts.{sum_notes, notes-append, less-acts, all_notes, Acts}
 use Rattle.run_laws.proofs.CommandActs.{answer_of-acts, not_carried_out-acts, Sends}
@@ -24,7 +24,7 @@ use Rattle.pool_law.proofs.PatternLemmas.{same_object-refl}
 use Rattle.run_laws.proofs.Draining.{grant, shed_one, close_one, Even, even-chain, trim-grants, close-grants, drain-even, closing-closes, grants-shed}
 
 -- what commands note before a sweep grants nothing and sheds nothing
-pub acts-even : (o : Object) (es rest : Entries) → Acts OfCommands es rest → Even o es rest
+pub acts-even : (o : Object) (es rest : ToldNotes) → Acts OfCommands es rest → Even o es rest
 acts-even o es rest a =
     let front : Acts OfCommands (all_notes a.acts) [] =
     record { acts = a.acts; are = sym (append-nil (all_notes a.acts)) } in
@@ -59,13 +59,13 @@ turns-even o shape lane (c ∷ cs) near = (
 )
 
 -- a log is what the commands note, with their sweeps, and then the closing of the caches
-pub record Parts (lane : ℕ) (es : Entries) : Type 0 where
-  pub last : Entries
+pub record Parts (lane : ℕ) (es : ToldNotes) : Type 0 where
+  pub last : ToldNotes
   pub first : Acts AnyNote es last
   pub even : (o : Object) → Even o es last
   pub closed : closes lane last ≡ Some tt
 
-pub log-parts : (shape : Shape) (lane : ℕ) (commands : List Command) (replies : List Answered) (es : Entries)
+pub log-parts : (shape : Shape) (lane : ℕ) (commands : List Command) (replies : List Answered) (es : ToldNotes)
     → IsLaneLog shape lane commands replies es → Parts lane es
 log-parts shape lane commands replies es log =
     record {
@@ -78,7 +78,7 @@ log-parts shape lane commands replies es log =
     }
 
 -- in a whole log: what may be shed at a cache is shed
-pub log-even : (o : Object) (lane : ℕ) (es : Entries) → Parts lane es
+pub log-even : (o : Object) (lane : ℕ) (es : ToldNotes) → Parts lane es
     → sum_notes (at_object o (plain grant)) es ≡ sum_notes (at_object o (plain shed_one)) es
 log-even o lane es p =
     let x = closes-is lane p.last p.closed in
@@ -101,7 +101,7 @@ below-has (suc n) class h = go (class == n) refl (λ less. below-has n class les
         less : (a b : ℕ) → a < suc b → a ≢ b → a < b
         less a b h ne = grind arith
 
-pub log-closes : (lane class : ℕ) (es : Entries) → Parts lane es → class < cached_classes
+pub log-closes : (lane class : ℕ) (es : ToldNotes) → Parts lane es → class < cached_classes
     → 1 ≤ sum_notes (at_object (Object.Cache lane class) (plain close_one)) es
 log-closes lane class es p low =
     let x = closes-is lane p.last p.closed in

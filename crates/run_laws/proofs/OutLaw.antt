@@ -17,15 +17,15 @@ use Rattle.pool_law.specs.Legal.{CountsAgree}
 use Rattle.run_laws.proofs.PagedHistories.{HistoriesPaged}
 use Rattle.pool_law.specs.Lives.{IsUse, UseEnds, arena_of, with_uses}
 use Rattle.run_laws.specs.Conserved.{EndsAsArena, IsHeld, OutIsHeld}
-use Rattle.arena_law.specs.Slots.{ArenaHolds}
-use Rattle.arena_law.specs.Returns.{gives}
+use Rattle.arena_laws.specs.Slots.{ArenaHolds}
+use Rattle.arena_laws.specs.Returns.{gives}
 use Rattle.run_laws.specs.CacheCounts.{one_of, total_by}
 use Rattle.pool_law.proofs.SameLemmas.{same_region-is}
 use Rattle.pool_law.proofs.PatternLemmas.{same_taking-refl, same_region-refl}
-use Rattle.arena_law.proofs.ArenaLaw.{after-holds, new-holds}
-use Rattle.arena_law.proofs.GiveSteps.{IsOne}
-use Rattle.arena_law.proofs.ReturnLaw.{take_note-out, after-keeps, after-append, one-step, IsOne-last}
-use Rattle.arena_law.proofs.TakingLaw.{takings-in_order}
+use Rattle.arena_laws.proofs.ArenaLaw.{after-holds, new-holds}
+use Rattle.arena_laws.proofs.GiveSteps.{IsOne}
+use Rattle.arena_laws.proofs.ReturnLaw.{take_note-out, after-keeps, after-append, one-step, IsOne-last}
+use Rattle.arena_laws.proofs.TakingLaw.{takings-in_order}
 use Rattle.run_laws.proofs.LogEntries.{LanesAct}
 use Rattle.run_laws.proofs.Placed.{placed, total-found, one-of-true}
 use Rattle.run_laws.proofs.Totals.{takes, gives_of, gives_in}

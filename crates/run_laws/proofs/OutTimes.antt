@@ -10,15 +10,15 @@ use Rattle.pool_law.specs.Same.{same_taking, same_region}
 use Rattle.pool_law.specs.Arenas.{Arena, arena_step, take, give, is_out_of, if_none}
 use Rattle.pool_law.specs.Histories.{after}
 use Rattle.pool_law.specs.Lives.{with_uses}
-use Rattle.arena_law.specs.Slots.{EachOf, ArenaHolds}
-use Rattle.arena_law.specs.Takings.{TakenInOrder}
-use Rattle.arena_law.specs.Returns.{gives}
+use Rattle.arena_laws.specs.Slots.{EachOf, ArenaHolds}
+use Rattle.arena_laws.specs.Takings.{TakenInOrder}
+use Rattle.arena_laws.specs.Returns.{gives}
 use Rattle.run_laws.specs.CacheCounts.{one_of, total_by}
 use Rattle.pool_law.proofs.SameLemmas.{same_region-is}
 use Rattle.pool_law.proofs.PatternLemmas.{same_taking-refl}
-use Rattle.arena_law.proofs.ArenaLaw.{step-holds}
-use Rattle.arena_law.proofs.GiveSteps.{IsOne}
-use Rattle.arena_law.proofs.ReturnLaw.{take_note-out}
+use Rattle.arena_laws.proofs.ArenaLaw.{step-holds}
+use Rattle.arena_laws.proofs.GiveSteps.{IsOne}
+use Rattle.arena_laws.proofs.ReturnLaw.{take_note-out}
 use Rattle.run_laws.proofs.LifeLaw.{same_taking-uses}
 use Rattle.run_laws.proofs.ApartLaw.{same_taking-back}
 use Rattle.std.proofs.lemmas.Bool.{cond_both}

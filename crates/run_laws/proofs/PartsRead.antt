@@ -9,11 +9,11 @@ use Rattle.pool_law.specs.declared.note.Did.TheVariants.{Get}
 use Rattle.pool_law.specs.declared.note.Note.TheVariants.{At}
 use Rattle.pool_law.specs.declared.run.Shape.{Shape}
 use Rattle.pool_law.specs.declared.run.Reply.{Reply}
-use Rattle.pool_law.specs.Logs.{Entry}
+use Rattle.pool_law.specs.Logs.{ToldNote}
 use Rattle.pool_law.specs.Counts.{root_is}
 use Rattle.pool_law.specs.declared.id.Part.{Part}
 use Rattle.pool_law.specs.Dids as says
-use Rattle.pool_law.specs.Readers.{Entries, Log, Reader, ◌>>=◌, give, given, behind_entry, first_of_left, next, done_at, busy, access}
+use Rattle.pool_law.specs.Readers.{ToldNotes, Log, Reader, ◌>>=◌, give, given, behind_entry, first_of_left, next, done_at, busy, access}
 use Rattle.pool_law.specs.Names.{Bound, Plain, Composed, Names, view_in, has_range, has_to_read, reader_of, parts_at, bind, read_on}
 use Rattle.pool_law.specs.LaneStates.{LaneState, named, view_named}
 use Rattle.pool_law.specs.Caches.{if_so}
@@ -27,30 +27,30 @@ use Rattle.run_laws.proofs.Readings.{bind-some, map-some, or-some, access-read}
 use Rattle.run_laws.proofs.ReplyLaw.{NoBytes, first-refuses, none-comes, passes-it, refusals-quiet, other-quiet}
 
 -- an entry got these bytes of a part
-pub record GotPart (part : Part) (e : Entry) (bytes : List ℕ) : Type 0 where
+pub record GotPart (part : Part) (e : ToldNote) (bytes : List ℕ) : Type 0 where
   pub number : ℕ
   pub note : e.note ≡ get_note part number bytes
   pub root : e.root ≡ Some part.root
   pub size : length bytes ≡ part.len
 
 -- the first of these entries got the parts, in order
-abbrev pub GotParts : List Part → Entries → Entries → List (List ℕ) → Type 0
+abbrev pub GotParts : List Part → ToldNotes → ToldNotes → List (List ℕ) → Type 0
 GotParts [] es rest [] = es ≡ rest
 GotParts (p ∷ ps) es rest (b ∷ bs) =
-    (e : Entry) × (xs : Entries) × (es ≡ e ∷ xs) × GotPart p e b × GotParts ps xs rest bs
+    (e : ToldNote) × (xs : ToldNotes) × (es ≡ e ∷ xs) × GotPart p e b × GotParts ps xs rest bs
 GotParts _ es rest _ = ⊥
 
-pub next-asked : {A : Type 0} (read : Entry → Option A) (log : Log) (p : A × Log) → next read log ≡ Some p
+pub next-asked : {A : Type 0} (read : ToldNote → Option A) (log : Log) (p : A × Log) → next read log ≡ Some p
     → p.1.asked ≡ log.asked
 next-asked {A} read log p is = go log.left is
   where
-    go : (es : Entries) → first_of_left read log es ≡ Some p → p.1.asked ≡ log.asked
+    go : (es : ToldNotes) → first_of_left read log es ≡ Some p → p.1.asked ≡ log.asked
     go [] e = absurd (cc e)
     go (x ∷ xs) e = let f = map-some (read x) (λ a. (a, behind_entry log x xs)) p e in ap (λ q. q.1.asked) (sym f.2)
 
 pub access-got : (part : Part) (log : Log) (p : List ℕ × Log)
     → access part.root (says.get part.offset part.len) log ≡ Some p
-    → (e : Entry) × (log.left ≡ e ∷ p.1.left) × GotPart part e p.0
+    → (e : ToldNote) × (log.left ≡ e ∷ p.1.left) × GotPart part e p.0
 access-got part log p is =
     let a = access-read part.root (says.get part.offset part.len) log p is in
     let g = got a.read.did p.0 a.read.said in (

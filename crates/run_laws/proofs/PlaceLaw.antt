@@ -12,7 +12,7 @@ use Rattle.pool_law.specs.Histories.{after, place_after}
 use Rattle.run_laws.specs.PlaceLives.{BornInOrder, GrewTo, WasBorn, PlaceLives}
 use Rattle.pool_law.proofs.SameLemmas.{and-first, and-second, same_root-is}
 use Rattle.run_laws.proofs.CacheLaw.{if_so-is}
-use Rattle.arena_law.proofs.ReturnLaw.{after-append, one-step}
+use Rattle.arena_laws.proofs.ReturnLaw.{after-append, one-step}
 
 pub if_so-test : {X : Type 0} (test : Bool) (x y : X) → if_so test x ≡ Some y → test ≡ true
 if_so-test true x y e = refl

@@ -18,17 +18,17 @@ use Rattle.pool_law.specs.Roots.{RootPlace, Present, new_place, place_step_by, p
 use Rattle.pool_law.specs.Logs.{has_history, may_stand}
 use Rattle.pool_law.specs.Histories.{after, IsAccepted, arena_after, cache_after, place_after}
 use Rattle.run_laws.specs.CacheCounts.{one_of, times, puts, removes, total_by}
-use Rattle.arena_law.specs.Slots.{ArenaHolds, IsLocated}
-use Rattle.arena_law.specs.Takings.{IsTaking}
+use Rattle.arena_laws.specs.Slots.{ArenaHolds, IsLocated}
+use Rattle.arena_laws.specs.Takings.{IsTaking}
 use Rattle.pool_law.specs.Lives.{cache_of, arena_of}
 use Rattle.run_laws.specs.PlaceLives.{WasBorn}
 use Rattle.pool_law.proofs.SameLemmas.{and-first, and-second, same_region-is, same_place-is}
 use Rattle.pool_law.proofs.PatternLemmas.{same_region-refl}
 use Rattle.run_laws.proofs.CacheLaw.{if-some, cache_step-balances, goes-through}
-use Rattle.arena_law.proofs.ArenaLaw.{after-holds, new-holds}
-use Rattle.arena_law.proofs.TakingLaw.{step-numbers}
-use Rattle.arena_law.proofs.GiveSteps.{IsOne}
-use Rattle.arena_law.proofs.ElementGives.{EachOf-one, any-one}
+use Rattle.arena_laws.proofs.ArenaLaw.{after-holds, new-holds}
+use Rattle.arena_laws.proofs.TakingLaw.{step-numbers}
+use Rattle.arena_laws.proofs.GiveSteps.{IsOne}
+use Rattle.arena_laws.proofs.ElementGives.{EachOf-one, any-one}
 use Rattle.run_laws.proofs.PlaceLaw.{place_step-does, was-born, end-present}
 use Rattle.std.proofs.lemmas.Bool.{cond_both}
 use Rattle.std.specs.List.{list_all}

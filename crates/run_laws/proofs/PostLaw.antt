@@ -13,8 +13,8 @@ use Rattle.pool_law.specs.declared.run.Answered.{Answered}
 use Rattle.pool_law.specs.Logs.{Logs, of_lane, entry_of}
 use Rattle.pool_law.specs.Legal.{fits_after, all_fit}
 use Rattle.run_laws.specs.Parcels.{PostsWithin}
-use Rattle.arena_law.specs.Slots.{EachOf}
-use Rattle.pool_law.specs.Readers.{Entries}
+use Rattle.arena_laws.specs.Slots.{EachOf}
+use Rattle.pool_law.specs.Readers.{ToldNotes}
 use Rattle.pool_law.specs.LaneLaw.{IsLaneLog}
 use Rattle.pool_law.proofs.SameLemmas.{and-first, and-second}
 use Rattle.run_laws.proofs.Sums.{sum_by, sum-at, sum-none}
@@ -75,7 +75,7 @@ sends-fit shape earlier (c ∷ cs) e = (
     send (Command.Send name to) e = λ lane parcel. e
     send _ e = tt
 
-pub log-near : (shape : Shape) (lane : ℕ) (commands : List Command) (replies : List Answered) (es : Entries)
+pub log-near : (shape : Shape) (lane : ℕ) (commands : List Command) (replies : List Answered) (es : ToldNotes)
     → all_fit shape [] commands ≡ true → IsLaneLog shape lane commands replies es
     → sum_notes (strays shape.lanes) es ≡ 0
 log-near shape lane commands replies es fit log =

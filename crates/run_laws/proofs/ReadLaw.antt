@@ -5,11 +5,11 @@ use Rattle.pool_law.specs.declared.note.Object.{Object}
 use Rattle.pool_law.specs.declared.note.Did.TheVariants.{Get}
 use Rattle.pool_law.specs.declared.run.Reply.{Reply}
 use Rattle.pool_law.specs.declared.run.Run.{Run}
-use Rattle.pool_law.specs.Logs.{Entry, of_lane, entry_of, entries_of}
+use Rattle.pool_law.specs.Logs.{ToldNote, of_lane, entry_of, entries_of}
 use Rattle.pool_law.specs.Legal.{IsLegal, logs_of, replies_of}
 use Rattle.pool_law.specs.Lives.{Done}
 use Rattle.pool_law.specs.declared.id.Part.{Part}
-use Rattle.pool_law.specs.Readers.{Entries}
+use Rattle.pool_law.specs.Readers.{ToldNotes}
 use Rattle.pool_law.specs.LaneStates.{new_lane, log_at}
 use Rattle.pool_law.specs.LaneLaw.{sweep_period, lane_run, before_stop, note_counts, replies_in}
 use Rattle.run_laws.specs.Reads.{get_note, groups_of, GetsPart, GetsParts, ReadsGiveWritten}
@@ -95,7 +95,7 @@ reads-give_written run legal lane number command bytes is reply =
             (number - before_stop (replies_in (replies_of run lane))) (Reply.OkBytes bytes)
             (legal.answers lane low).stopped at))
 
-    one : (part : Part) (e : Entry) (b : List ℕ) → (i : ℕ)
+    one : (part : Part) (e : ToldNote) (b : List ℕ) → (i : ℕ)
         × (slice_get (of_lane (entries_of (logs_of run)) lane) i ≡ Some e) → GotPart part e b
         → GetsPart (logs_of run) part e b
     one part e b i g =
@@ -113,8 +113,8 @@ reads-give_written run legal lane number command bytes is reply =
           written = got-written run.shape (logs_of run) legal.histories part.root.place part.offset b d;
         }
 
-    all : (ps : List Part) (es : Entries) (bs : List (List ℕ))
-        → ((m : ℕ) (e : Entry) → slice_get es m ≡ Some e
+    all : (ps : List Part) (es : ToldNotes) (bs : List (List ℕ))
+        → ((m : ℕ) (e : ToldNote) → slice_get es m ≡ Some e
         → (i : ℕ) × (slice_get (of_lane (entries_of (logs_of run)) lane) i ≡ Some e)) → GotParts ps es [] bs
         → GetsParts (logs_of run) ps es bs
     all [] es [] there g = subst (λ xs. GetsParts (logs_of run) [] xs []) (sym g) tt

@@ -11,11 +11,11 @@ use Rattle.pool_law.specs.declared.note.Note.{Note}
 use Rattle.pool_law.specs.declared.note.Note.TheVariants.{At, Ref, Busy}
 use Rattle.pool_law.specs.Same.{same_object, same_root, same_region}
 use Rattle.pool_law.specs.Arenas.{or_else}
-use Rattle.pool_law.specs.Logs.{Entry}
+use Rattle.pool_law.specs.Logs.{ToldNote}
 use Rattle.pool_law.specs.Counts.{root_is}
 use Rattle.pool_law.specs.Options.{check}
 use Rattle.pool_law.specs.Dids as says
-use Rattle.pool_law.specs.Readers.{Entries, Log, Reader, ◌>>◌, give, behind_entry, first_of_left, next, done_at, done_to, marked, note, step, access, at_end, ended_with, read_all}
+use Rattle.pool_law.specs.Readers.{ToldNotes, Log, Reader, ◌>>◌, give, behind_entry, first_of_left, next, done_at, done_to, marked, note, step, access, at_end, ended_with, read_all}
 use Rattle.pool_law.specs.Patterns.{give_back}
 use Rattle.pool_law.proofs.SameLemmas.{same_object-is, same_root-is, same_region-is}
 use Rattle.run_laws.proofs.CacheLaw.{if-some}
@@ -75,19 +75,20 @@ marked-quiet P o (Busy held) k e = tt
 -- ---- What is read.
 
 -- the next entry is read
-pub next-read : {A : Type 0} (read : Entry → Option A) (log : Log) (p : A × Log) → next read log ≡ Some p
-    → (e : Entry) × (log.left ≡ e ∷ p.1.left) × (read e ≡ Some p.0)
+pub next-read : {A : Type 0} (read : ToldNote → Option A) (log : Log) (p : A × Log) → next read log ≡ Some p
+    → (e : ToldNote) × (log.left ≡ e ∷ p.1.left) × (read e ≡ Some p.0)
 next-read {A} read log p is = go log.left is
   where
-    go : (es : Entries) → first_of_left read log es ≡ Some p → (e : Entry) × (es ≡ e ∷ p.1.left) × (read e ≡ Some p.0)
+    go : (es : ToldNotes) → first_of_left read log es ≡ Some p → (e : ToldNote) × (es ≡ e ∷ p.1.left) × (read e ≡ Some
+        p.0)
     go [] e = absurd (cc e)
     go (x ∷ xs) e =
         let f = map-some (read x) (λ a. (a, behind_entry log x xs)) p e in
         (x, ap (λ q. x ∷ q.1.left) f.2, f.1 ∙ ap (λ q. Some q.0) f.2)
 
 -- a note at the object that says this
-pub record NoteRead {A : Type 0} (o : Object) (says_it : Did → Option A) (es rest : Entries) (a : A) : Type 0 where
-  pub entry : Entry
+pub record NoteRead {A : Type 0} (o : Object) (says_it : Did → Option A) (es rest : ToldNotes) (a : A) : Type 0 where
+  pub entry : ToldNote
   pub number : ℕ
   pub did : Did
   pub are : es ≡ entry ∷ rest
@@ -103,8 +104,8 @@ note-read o says_it log p is =
     record { entry = n.0; number = k.0; did = d.0; are = n.1; is = k.1; said = d.2 }
 
 -- a step on the word of the root that says this
-pub record StepRead {A : Type 0} (r : RootId) (says_it : RefDid → Option A) (es rest : Entries) (a : A) : Type 0 where
-  pub entry : Entry
+pub record StepRead {A : Type 0} (r : RootId) (says_it : RefDid → Option A) (es rest : ToldNotes) (a : A) : Type 0 where
+  pub entry : ToldNote
   pub did : RefDid
   pub are : es ≡ entry ∷ rest
   pub is : entry.note ≡ Ref r did
@@ -118,7 +119,7 @@ step-read r says_it log p is =
     record { entry = n.0; did = d.0; are = n.1; is = done_to-note r n.0.note d.0 d.1; said = d.2 }
 
 -- a note at the place of the root, which is present there, that says this
-pub record AccessRead {A : Type 0} (r : RootId) (says_it : Did → Option A) (es rest : Entries) (a : A) : Type 0 where
+pub record AccessRead {A : Type 0} (r : RootId) (says_it : Did → Option A) (es rest : ToldNotes) (a : A) : Type 0 where
   pub read : NoteRead (Object.Root r.place) says_it es rest a
   pub root : read.entry.root ≡ Some r
 
@@ -144,7 +145,7 @@ access-read r says_it log p is =
 
 -- a region is given back
 pub give_back-read : (r : RegionId) (log : Log) (p : Unit {0} × Log) → give_back r log ≡ Some p
-    → (e : Entry) × (k : ℕ) × (log.left ≡ e ∷ p.1.left) × (e.note ≡ At (Object.Arena r.place.arena) k (Give r))
+    → (e : ToldNote) × (k : ℕ) × (log.left ≡ e ∷ p.1.left) × (e.note ≡ At (Object.Arena r.place.arena) k (Give r))
 give_back-read r log p is =
     let n = note-read (Object.Arena r.place.arena) (says.give r) log p is in
     (n.entry, n.number, n.are, n.is ∙ ap (At (Object.Arena r.place.arena) n.number) (gives n.did p.0 n.said))
@@ -157,7 +158,7 @@ give_back-read r log p is =
 pub at_end-left : (log : Log) (p : Unit {0} × Log) → at_end log ≡ Some p → (log.left ≡ []) × (p.1 ≡ log)
 at_end-left log p is = go log.left is
   where
-    go : (es : Entries) → ended_with log es ≡ Some p → (es ≡ []) × (p.1 ≡ log)
+    go : (es : ToldNotes) → ended_with log es ≡ Some p → (es ≡ []) × (p.1 ≡ log)
     go [] e = let same : ◌≡◌ {A = Unit {0} × Log} (tt, log) p = cc e in (refl, ap (λ q. q.1) (sym same))
     go (x ∷ xs) e = absurd (cc e)
 

@@ -20,7 +20,7 @@ use Rattle.pool_law.specs.LaneStates.{LaneState, named, view_named, composite_fr
 use Rattle.pool_law.specs.Refusals.{Refusal, first_refusal, unbound, taken, composite, illegal, too_long, refusals}
 use Rattle.pool_law.specs.Patterns.{New, obtain, one_more, bear, with_handle, allot, put_away, end_of, release, found_room, grown, grow_with, regrow}
 use Rattle.pool_law.specs.Lanes.{Answer, answer, parcel_of, set_parts, copy_parts, release_parts, copied_to, consolidate, composed, allotted, regrown, received, set_at, retain_of, release_of, count_in, carried_out}
-use Rattle.arena_law.specs.Slots.{EachOf}
+use Rattle.arena_laws.specs.Slots.{EachOf}
 use Rattle.run_laws.proofs.Readings.{bind-some, or-some}
 
 -- a reply without bytes

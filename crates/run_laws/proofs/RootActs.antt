@@ -13,9 +13,9 @@ use Rattle.pool_law.specs.declared.run.Shape.{Shape}
 use Rattle.pool_law.specs.declared.run.Reply.{Reply}
 use Rattle.pool_law.specs.Limits.{geometry_of, has_cache}
 use Rattle.pool_law.specs.Same.{same_region}
-use Rattle.pool_law.specs.Logs.{Entry}
+use Rattle.pool_law.specs.Logs.{ToldNote}
 use Rattle.pool_law.specs.Dids as says
-use Rattle.pool_law.specs.Readers.{Entries, Log, Reader, ◌>>=◌, ◌>>◌, ◌or◌, give, given, unless_there, found, not_found, marked, note, step, busy, access, ask}
+use Rattle.pool_law.specs.Readers.{ToldNotes, Log, Reader, ◌>>=◌, ◌>>◌, ◌or◌, give, given, unless_there, found, not_found, marked, note, step, busy, access, ask}
 use Rattle.pool_law.specs.Patterns.{ask_cache, ask_arena, obtain, New, one_more, bear, with_handle, allot}
 use Rattle.pool_law.proofs.SameLemmas.{same_region-is, and-second}
 use Rattle.run_laws.proofs.CacheLaw.{if_so-is}
@@ -64,14 +64,14 @@ module _ (P : Object → Did → Type 0) where
   -- ---- A region is obtained.
 
   -- acts, and then what got a region, if one was got
-  pub record InHand (r : RegionId) (es rest : Entries) : Type 0 where
-    pub got : Entry
+  pub record InHand (r : RegionId) (es rest : ToldNotes) : Type 0 where
+    pub got : ToldNote
     pub did : Did
     pub got_is : IsAt did got.note
     pub gets : Gets r did
     pub acts : Acts P es (got ∷ rest)
 
-  abbrev pub GotBy : Option RegionId → Entries → Entries → Type 0
+  abbrev pub GotBy : Option RegionId → ToldNotes → ToldNotes → Type 0
   GotBy None es rest = Acts P es rest
   GotBy (Some r) es rest = InHand r es rest
 
@@ -79,7 +79,7 @@ module _ (P : Object → Did → Type 0) where
   abbrev pub Obtains : Reader (Option RegionId) → Type 0
   Obtains r = (log : Log) (p : Option RegionId × Log) → r log ≡ Some p → GotBy p.0 log.left p.1.left
 
-  pub got-then : (r : Option RegionId) (es mid rest : Entries) → Acts P es mid → GotBy r mid rest → GotBy r es rest
+  pub got-then : (r : Option RegionId) (es mid rest : ToldNotes) → Acts P es mid → GotBy r mid rest → GotBy r es rest
   got-then None es mid rest a b = acts-then es mid rest a b
   got-then (Some r) es mid rest a b =
       record {
@@ -161,7 +161,7 @@ module _ (P : Object → Did → Type 0) where
           (not_found-got (busy (Object.Cache lane class)) (busy-acts (Object.Cache lane class))))
 
   pub unless_there-got : (o : Option RegionId) (r : Reader (Option RegionId)) → Obtains r
-      → (es : Entries) (log : Log) (p : Option RegionId × Log) → GotBy o es log.left → unless_there o r log ≡ Some p
+      → (es : ToldNotes) (log : Log) (p : Option RegionId × Log) → GotBy o es log.left → unless_there o r log ≡ Some p
       → GotBy p.0 es p.1.left
   unless_there-got None r h es log p got is = got-then p.0 es log.left p.1.left got (h log p is)
   unless_there-got (Some region) r h es log p got is =
@@ -215,7 +215,7 @@ module _ (P : Object → Did → Type 0) where
       still _ u e = absurd (cc e)
 
   -- a birth, or a handle that goes home
-  pub bear-acts : (lane place size : ℕ) (o : Option RegionId) (es : Entries) (log : Log) (p : Result New Reply × Log)
+  pub bear-acts : (lane place size : ℕ) (o : Option RegionId) (es : ToldNotes) (log : Log) (p : Result New Reply × Log)
       → GotBy o es log.left → bear lane place size o log ≡ Some p → Acts P es p.1.left
   bear-acts lane place size None es log p got is =
       acts-then es log.left p.1.left got

@@ -10,8 +10,8 @@ use Rattle.pool_law.specs.declared.note.Did.TheVariants.{Take, Give, Hit, Kept, 
 use Rattle.pool_law.specs.declared.note.RefDid.{RefDid}
 use Rattle.pool_law.specs.declared.note.Note.{Note}
 use Rattle.pool_law.specs.declared.note.Note.TheVariants.{At, Ref, Busy}
-use Rattle.pool_law.specs.Logs.{Logs, Entry, of_lane, entry_of}
-use Rattle.pool_law.specs.Readers.{Entries}
+use Rattle.pool_law.specs.Logs.{Logs, ToldNote, of_lane, entry_of}
+use Rattle.pool_law.specs.Readers.{ToldNotes}
 use Rattle.pool_law.specs.Patterns.{one_more}
 use Rattle.run_laws.proofs.Acts.{Gets, PutsAway, IsQuiet, AreQuiet, IsAt, Birthing, Growing, Sparing, Ending, Act, before, act_notes, Acts}
 use Rattle.run_laws.proofs.ActPlaces.{Within, entry-within}
@@ -94,10 +94,10 @@ module _ (logs : Logs) (lane : ℕ) where
   away-together i k o r (Give x) puts = tt
   away-together i k o r _ puts = absurd puts
 
-  abbrev pub log_entries : Entries
+  abbrev pub log_entries : ToldNotes
   log_entries = map (entry_of logs) (of_lane logs lane)
 
-  note-at : (j : ℕ) (x : Entry) (n : Note) → slice_get log_entries j ≡ Some x → x.note ≡ n
+  note-at : (j : ℕ) (x : ToldNote) (n : Note) → slice_get log_entries j ≡ Some x → x.note ≡ n
       → (slice_get (of_lane logs lane) j ≡ Some n) × (x ≡ entry_of logs n)
   note-at j x n is note =
       let m = map-get (entry_of logs) (of_lane logs lane) j x is in
@@ -105,26 +105,26 @@ module _ (logs : Logs) (lane : ℕ) where
       (m.1 ∙ ap (λ y. Some y) same, sym m.2 ∙ ap (entry_of logs) same)
 
   -- the entries of an act at their places
-  module _ (e : Entry) (place : ℕ → ℕ) (rises : (j l : ℕ) → j < l → place j < place l)
+  module _ (e : ToldNote) (place : ℕ → ℕ) (rises : (j l : ℕ) → j < l → place j < place l)
       (in_row : (j : ℕ) → place j ≡ place 0 + j) where
     -- what gets a region stands alone, as do a refusal and what puts a region away
-    got-together : (n : ℕ) (got : Entry) (r : RegionId) (d : Did) → IsAt d got.note → Gets r d → got ≡ e
+    got-together : (n : ℕ) (got : ToldNote) (r : RegionId) (d : Did) → IsAt d got.note → Gets r d → got ≡ e
         → Together logs lane n e.note
     got-together n got r d at gets same =
         subst (λ x. Together logs lane n x.note) same
         (subst (Together logs lane n) (sym at.is) (gets-together n at.number at.object r d gets))
 
-    still-together : (n : ℕ) (x : Entry) → IsQuiet AnyNote x.note → x ≡ e → Together logs lane n e.note
+    still-together : (n : ℕ) (x : ToldNote) → IsQuiet AnyNote x.note → x ≡ e → Together logs lane n e.note
     still-together n x quiet same =
         subst (λ y. Together logs lane n y.note) same (quiet-together n x.note quiet)
 
-    put-together : (n : ℕ) (away : Entry) (r : RegionId) (d : Did) → IsAt d away.note → PutsAway r d → away ≡ e
+    put-together : (n : ℕ) (away : ToldNote) (r : RegionId) (d : Did) → IsAt d away.note → PutsAway r d → away ≡ e
         → Together logs lane n e.note
     put-together n away r d at puts same =
         subst (λ y. Together logs lane n y.note) same
         (subst (Together logs lane n) (sym at.is) (away-together n at.number at.object r d puts))
 
-    tail-together : (n : ℕ) (refused : Option Entry) (away : Entry) (r : RegionId) (d : Did)
+    tail-together : (n : ℕ) (refused : Option ToldNote) (away : ToldNote) (r : RegionId) (d : Did)
         → AreQuiet AnyNote refused → IsAt d away.note → PutsAway r d → (i : ℕ)
         → slice_get (before refused (away ∷ [])) i ≡ Some e → Together logs lane n e.note
     tail-together n None away r d quiet at puts zero is = put-together n away r d at puts (cc is)
@@ -133,8 +133,8 @@ module _ (logs : Logs) (lane : ℕ) where
     tail-together n (Some x) away r d quiet at puts (suc zero) is = put-together n away r d at puts (cc is)
     tail-together n (Some x) away r d quiet at puts (suc (suc i)) is = absurd (cc is)
 
-    births-together : (got birth set : Entry) → Birthing got birth set
-        → ((j : ℕ) (x : Entry) → slice_get (got ∷ birth ∷ set ∷ []) j ≡ Some x
+    births-together : (got birth set : ToldNote) → Birthing got birth set
+        → ((j : ℕ) (x : ToldNote) → slice_get (got ∷ birth ∷ set ∷ []) j ≡ Some x
         → slice_get log_entries (place j) ≡ Some x) →
         (m : ℕ) → slice_get (got ∷ birth ∷ set ∷ []) m ≡ Some e → Together logs lane (place m) e.note
     births-together got birth set b there = go
@@ -166,15 +166,15 @@ module _ (logs : Logs) (lane : ℕ) where
             (subst (Together logs lane (place 2)) (sym b.set_is) here)
         go (suc (suc (suc i))) is = absurd (cc is)
 
-    grows-together : (got growth : Entry) (refused : Option Entry) (away : Entry) → AreQuiet AnyNote refused
+    grows-together : (got growth : ToldNote) (refused : Option ToldNote) (away : ToldNote) → AreQuiet AnyNote refused
         → Growing got growth away →
-        ((j : ℕ) (x : Entry) → slice_get (got ∷ growth ∷ before refused (away ∷ [])) j ≡ Some x
+        ((j : ℕ) (x : ToldNote) → slice_get (got ∷ growth ∷ before refused (away ∷ [])) j ≡ Some x
         → slice_get log_entries (place j) ≡ Some x) →
         (m : ℕ) → slice_get (got ∷ growth ∷ before refused (away ∷ [])) m ≡ Some e
         → Together logs lane (place m) e.note
     grows-together got growth refused away quiet g there = go
       where
-        last : (o : Option Entry) → (l : ℕ) × (1 < l)
+        last : (o : Option ToldNote) → (l : ℕ) × (1 < l)
             × (slice_get (got ∷ growth ∷ before o (away ∷ [])) l ≡ Some away) × (l ≤ 3)
         last None = (2, omega arith, refl, omega arith)
         last (Some r) = (3, omega arith, refl, omega arith)
@@ -206,7 +206,7 @@ module _ (logs : Logs) (lane : ℕ) where
         go (suc (suc i)) is =
             tail-together (place (suc (suc i))) refused away g.left g.did quiet g.away_is g.puts_away i is
 
-    spares-together : (got found : Entry) (refused : Option Entry) (away : Entry) → IsQuiet AnyNote found.note
+    spares-together : (got found : ToldNote) (refused : Option ToldNote) (away : ToldNote) → IsQuiet AnyNote found.note
         → AreQuiet AnyNote refused → Sparing got away →
         (m : ℕ) → slice_get (got ∷ found ∷ before refused (away ∷ [])) m ≡ Some e
         → Together logs lane (place m) e.note
@@ -217,15 +217,16 @@ module _ (logs : Logs) (lane : ℕ) where
     spares-together got found refused away still quiet s (suc (suc i)) is =
         tail-together (place (suc (suc i))) refused away s.region s.did quiet s.away_is s.puts_away i is
 
-    ends-together : (ended end vacated : Entry) (refused : Option Entry) (away : Entry) → AreQuiet AnyNote refused
+    ends-together : (ended end vacated : ToldNote) (refused : Option ToldNote) (away : ToldNote) → AreQuiet AnyNote
+        refused
         → Ending ended end vacated away →
-        ((j : ℕ) (x : Entry) → slice_get (ended ∷ end ∷ vacated ∷ before refused (away ∷ [])) j ≡ Some x
+        ((j : ℕ) (x : ToldNote) → slice_get (ended ∷ end ∷ vacated ∷ before refused (away ∷ [])) j ≡ Some x
         → slice_get log_entries (place j) ≡ Some x) →
         (m : ℕ) → slice_get (ended ∷ end ∷ vacated ∷ before refused (away ∷ [])) m ≡ Some e
         → Together logs lane (place m) e.note
     ends-together ended end vacated refused away quiet x there = go
       where
-        last : (o : Option Entry) → (l : ℕ) × (2 < l)
+        last : (o : Option ToldNote) → (l : ℕ) × (2 < l)
             × (slice_get (ended ∷ end ∷ vacated ∷ before o (away ∷ [])) l ≡ Some away) × (l ≤ 4)
         last None = (3, omega arith, refl, omega arith)
         last (Some r) = (4, omega arith, refl, omega arith)
@@ -281,7 +282,7 @@ module _ (logs : Logs) (lane : ℕ) where
             tail-together (place (suc (suc (suc i)))) refused away x.region x.did quiet x.away_is x.puts_away i is
 
     act-together : (a : Act AnyNote)
-        → ((j : ℕ) (x : Entry) → slice_get (act_notes a) j ≡ Some x → slice_get log_entries (place j) ≡ Some x)
+        → ((j : ℕ) (x : ToldNote) → slice_get (act_notes a) j ≡ Some x → slice_get log_entries (place j) ≡ Some x)
         → (m : ℕ) → slice_get (act_notes a) m ≡ Some e → Together logs lane (place m) e.note
     act-together (Act.Quiet x quiet) there zero is = still-together (place 0) x quiet (cc is)
     act-together (Act.Quiet x quiet) there (suc m) is = absurd (cc is)

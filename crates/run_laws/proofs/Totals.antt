@@ -9,7 +9,7 @@ use Rattle.pool_law.specs.declared.note.Note.{Note}
 use Rattle.pool_law.specs.Same.{same_object, same_region}
 use Rattle.pool_law.specs.Logs.{Logs, History, dids, history_of, entry_of}
 use Rattle.pool_law.specs.Lives.{cache_of, arena_of}
-use Rattle.arena_law.specs.Takings.{TakenInOrder}
+use Rattle.arena_laws.specs.Takings.{TakenInOrder}
 use Rattle.run_laws.specs.CacheCounts.{one_of, puts, total_by}
 use Rattle.run_laws.specs.Hands.{did_of}
 use Rattle.run_laws.specs.HandCounts.{Tally, tally_if, ended_by}

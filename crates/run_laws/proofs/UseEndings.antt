@@ -20,7 +20,7 @@ use Rattle.run_laws.specs.HandCounts.{ended_by}
 use Rattle.pool_law.proofs.SameLemmas.{same_region-is}
 use Rattle.pool_law.proofs.PatternLemmas.{same_region-refl}
 use Rattle.pool_law.proofs.HistoryLemmas.{after-push}
-use Rattle.arena_law.proofs.ReturnLaw.{after-append}
+use Rattle.arena_laws.proofs.ReturnLaw.{after-append}
 use Rattle.run_laws.proofs.PagedHistories.{HistoriesPaged}
 use Rattle.run_laws.proofs.LogEntries.{LanesAct}
 use Rattle.run_laws.proofs.LogParts.{Parts}

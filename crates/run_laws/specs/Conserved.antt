@@ -15,7 +15,7 @@ use Rattle.pool_law.specs.Caches.{Cache}
 use Rattle.pool_law.specs.Histories.{arena_after, cache_after}
 use Rattle.pool_law.specs.Logs.{Logs, dids, history_of, entries_of}
 use Rattle.pool_law.specs.Counts.{total_of}
-use Rattle.arena_law.specs.Slots.{EachOf}
+use Rattle.arena_laws.specs.Slots.{EachOf}
 use Rattle.pool_law.specs.Lives.{StandsAt, IsUse, UseEnds, GrowsOut, Done, cache_of, arena_of}
 use Rattle.run_laws.specs.OneLog.{Counted, CountedOnce}
 

@@ -6,7 +6,7 @@ use Rattle.pool_law.specs.declared.note.Did.TheVariants.{Take, Give, Hit, Kept, 
 use Rattle.pool_law.specs.Same.{same_region}
 use Rattle.run_laws.specs.CacheCounts.{one_of}
 use Rattle.run_laws.specs.Hands.{did_of}
-use Rattle.pool_law.specs.Readers.{Entries}
+use Rattle.pool_law.specs.Readers.{ToldNotes}
 use Rattle.pool_law.specs.Patterns.{one_more}
 
 -- a number for what was done, with the region that an end takes out, or that a growth leaves
@@ -17,7 +17,7 @@ abbrev pub tally_if : Tally → Option RegionId → Option Did → ℕ
 tally_if f taken None = 0
 tally_if f taken (Some did) = f taken did
 
-abbrev pub tally : Tally → Entries → ℕ
+abbrev pub tally : Tally → ToldNotes → ℕ
 tally f [] = 0
 tally f (e ∷ es) = tally_if f e.region (did_of e.note) + tally f es
 
@@ -54,7 +54,7 @@ given_by r taken (Give x) = one_of (same_region r x)
 given_by r taken _ = 0
 
 -- in a lane's log: what is got, ends or is shed is used, kept or given once
-pub record HandsBalance (r : RegionId) (es : Entries) : Type 0 where
+pub record HandsBalance (r : RegionId) (es : ToldNotes) : Type 0 where
   pub through : tally (got_by r) es + (tally (ended_by r) es + tally (shed_by r) es)
       ≡ tally (used_by r) es + (tally (kept_by r) es + tally (given_by r) es)
   -- what is used was got

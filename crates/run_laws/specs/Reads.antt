@@ -9,13 +9,13 @@ use Rattle.pool_law.specs.declared.note.Note.{Note}
 use Rattle.pool_law.specs.declared.note.Note.TheVariants.{At}
 use Rattle.pool_law.specs.declared.run.Reply.{Reply}
 use Rattle.pool_law.specs.declared.run.Run.{Run}
-use Rattle.pool_law.specs.Logs.{Logs, Entry, dids, history_of, of_lane, entry_of, entries_of, root_before}
+use Rattle.pool_law.specs.Logs.{Logs, ToldNote, dids, history_of, of_lane, entry_of, entries_of, root_before}
 use Rattle.pool_law.specs.Caches.{if_so}
 use Rattle.pool_law.specs.Options.{◌>>=◌}
 use Rattle.pool_law.specs.Names.{has_range, has_to_read, reader_of, parts_at}
 use Rattle.pool_law.specs.LaneStates.{LaneState, new_lane, named}
 use Rattle.pool_law.specs.LaneLaw.{sweep_period, pieces, lane_run, note_counts, replies_in}
-use Rattle.pool_law.specs.Readers.{Entries}
+use Rattle.pool_law.specs.Readers.{ToldNotes}
 use Rattle.pool_law.specs.Legal.{logs_of, replies_of}
 
 -- bytes that are set at an offset cover this index
@@ -74,7 +74,7 @@ parts_read s (Command.Read name len) =
 parts_read s _ = None
 
 -- the notes of each command of a lane
-abbrev pub groups_of : Run → ℕ → List Entries
+abbrev pub groups_of : Run → ℕ → List ToldNotes
 groups_of run lane =
     pieces (note_counts (replies_of run lane)) (of_lane (entries_of (logs_of run)) lane)
 
@@ -87,7 +87,7 @@ IsBefore run lane number s =
 
 -- an entry gets these bytes of a part: of the root that is present, at the part's offset, and each
 -- is the byte that was last written there
-pub record GetsPart (logs : Logs) (part : Part) (e : Entry) (bytes : List ℕ) : Type 0 where
+pub record GetsPart (logs : Logs) (part : Part) (e : ToldNote) (bytes : List ℕ) : Type 0 where
   pub number : ℕ  -- of the note
   pub is : e ≡ entry_of logs (get_note part number bytes)
   pub size : length bytes ≡ part.len
@@ -96,7 +96,7 @@ pub record GetsPart (logs : Logs) (part : Part) (e : Entry) (bytes : List ℕ) :
       get_or bytes k 0 ≡ last_written (part.offset + k) 0 (earlier_at logs part.root.place number)
 
 -- these entries, and no others, get the parts in order
-abbrev pub GetsParts : Logs → List Part → Entries → List (List ℕ) → Type 0
+abbrev pub GetsParts : Logs → List Part → ToldNotes → List (List ℕ) → Type 0
 GetsParts logs [] [] [] = Unit {0}
 GetsParts logs (p ∷ ps) (e ∷ es) (b ∷ bs) = GetsPart logs p e b × GetsParts logs ps es bs
 GetsParts logs _ _ _ = ⊥
@@ -114,7 +114,7 @@ pub record ReadsWritten (run : Run) (lane number : ℕ) (command : Command) (byt
     pub before : IsBefore run lane number state
     pub parts : List Part
     pub is : parts_read state command ≡ Some parts
-    pub notes : Entries
+    pub notes : ToldNotes
     pub own : slice_get (groups_of run lane) number ≡ Some notes
     pub got : List (List ℕ)
     pub gives : bytes ≡ joined got

@@ -28,8 +28,8 @@ ghost use Rattle.run_laws.specs.Parcels.{TotalsAreShared};
 ghost use Rattle.pool_law.specs.Lives.{RegionsLive};
 ghost use Rattle.pool_law.specs.Apart.{LieApart, NeverOverlap};
 ghost use Rattle.pool_law.specs.LaneLaw.{IsLaneLog};
-ghost use Rattle.pool_law.specs.Readers.{Entries};
-ghost use Rattle.pool_law.specs.Logs.{Entry, Logs, History, IsHistory, history_of, of_lane};
+ghost use Rattle.pool_law.specs.Readers.{ToldNotes};
+ghost use Rattle.pool_law.specs.Logs.{ToldNote, Logs, History, IsHistory, history_of, of_lane};
 ghost use Rattle.run_laws.specs.PlaceLives.{PlaceLives};
 
 /// What was kept by a cache has been hit or shed, or is still there.
@@ -53,18 +53,18 @@ pub fn one_history()
 /// born with it or grows into it, or it is kept or given.
 pub fn hands_are_empty()
     ensures empty { (shape : Shape) (lane : ℕ) (commands : List Command) (replies : List Answered)
-        (es : Entries) → IsLaneLog shape lane commands replies es → EmptyHanded es }
+        (es : ToldNotes) → IsLaneLog shape lane commands replies es → EmptyHanded es }
 {}
 
 /// In a lane's log what is got, left or shed is used, kept or given once; what is used was got, and what
 /// is shed is given.
 pub fn hands_balance()
-    ensures balance { (r : RegionId) (es : Entries) → EmptyHanded es → HandsBalance r es }
+    ensures balance { (r : RegionId) (es : ToldNotes) → EmptyHanded es → HandsBalance r es }
 {}
 
 /// The total of a root is what the lanes count, with what was posted and not fetched.
 pub fn totals_are_counted()
-    ensures counted { (root : RootId) (logs : List (List Entry)) →
+    ensures counted { (root : RootId) (logs : List (List ToldNote)) →
         ((lane : ℕ) → CountsHold root 0 (of_lane logs lane)) → TotalHolds root logs →
         TotalIsCounted root logs }
 {}

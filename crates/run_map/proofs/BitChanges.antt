@@ -8,7 +8,7 @@ use Rattle.bit_words.specs.Words.{bit_of, ChangesBit}
 use Rattle.size_classes.specs.PageCounts.{IsLastAtMost}
 use Rattle.size_classes.proofs.CountLaws.{past_last}
 use Rattle.run_map.specs.Stored.{mark_of, is_marked, pages_at, StandsAt, AreMarked, AreNoted, IsNotedAnew, IsUnmarked}
-use Rattle.run_map.specs.declared.runs.Layout.{Layout}
+use Rattle.run_map.specs.declared.runs.RunLayout.{RunLayout}
 use Rattle.run_map.specs.declared.store.Store.{Store}
 use mathlib.Core.Logic.{inl, inr}
 
@@ -68,7 +68,7 @@ module _ (s t : Store) (class first bit : ℕ) (h : ChangesMark s t class first 
 
 -- ---- a run goes
 
-module _ (l : Layout) (s t : Store) (class first n : ℕ) (h : ChangesMark s t class first 0)
+module _ (l : RunLayout) (s t : Store) (class first n : ℕ) (h : ChangesMark s t class first 0)
     (there : first < 64 * s.width)
     (few : class < 40) (stood : pages_at s first ≡ n) (last : IsLastAtMost n class)
     (gone : pages_at t first ≡ 0) (rest : (q : ℕ) → q ≢ first → pages_at t q ≡ pages_at s q) where
@@ -133,7 +133,7 @@ module _ (s t : Store) (class first : ℕ) (h : ChangesMark s t class first 0) (
 
 -- ---- a run comes
 
-module _ (l : Layout) (s t : Store) (class first n : ℕ) (h : ChangesMark s t class first 1)
+module _ (l : RunLayout) (s t : Store) (class first n : ℕ) (h : ChangesMark s t class first 1)
     (there : first < 64 * s.width)
     (few : class < 40) (none : pages_at s first ≡ 0) (last : IsLastAtMost n class) (some : 0 < n)
     (come : pages_at t first ≡ n) (rest : (q : ℕ) → q ≢ first → pages_at t q ≡ pages_at s q) where

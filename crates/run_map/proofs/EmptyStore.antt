@@ -9,7 +9,7 @@ use Rattle.ground.specs.Ground.{Segment}
 use Rattle.size_classes.specs.Spans.{AreSpacedFrom}
 use Rattle.run_map.specs.Lengths.{spans_from, beginning, ending}
 use Rattle.run_map.specs.Stored.{stored, pages_at, is_marked, mark_of, IsHeld, IsStore}
-use Rattle.run_map.specs.declared.runs.Layout.{Layout}
+use Rattle.run_map.specs.declared.runs.RunLayout.{RunLayout}
 use Rattle.run_map.specs.declared.store.Store.{Store}
 use Rattle.run_map.proofs.StoreChanges.{begins-at}
 use mathlib.Core.Logic.{inl, inr}
@@ -34,7 +34,7 @@ none-appended (p ∷ ps) h (suc i) = none-appended ps (λ j. h (suc j)) i
 
 -- ---- what a store has that is made
 
-pub record IsBlank (l : Layout) (s : Store) : Type 0 where
+pub record IsBlank (l : RunLayout) (s : Store) : Type 0 where
   pub begins : (s.begins.items ≡ replicate l.pages 0) × (s.begins.len ≡ l.pages)
   pub ends : (s.ends.items ≡ replicate (l.pages + 1) 0) × (s.ends.len ≡ l.pages + 1)
   pub none : (i : ℕ) → get_or s.pieces.items i None ≡ None
@@ -43,7 +43,7 @@ pub record IsBlank (l : Layout) (s : Store) : Type 0 where
   pub firsts : s.firsts.items ≡ replicate (s.width * 40) 0
   pub noted : s.noted ≡ 0
 
-module _ (l : Layout) (s : Store) (few : l.pages ≤ 2 ^ 11) (h : IsBlank l s) where
+module _ (l : RunLayout) (s : Store) (few : l.pages ≤ 2 ^ 11) (h : IsBlank l s) where
   pub no-runs : stored s ≡ []
   no-runs = ap (spans_from 0) h.begins.0 ∙ none-stand 0 l.pages
 
@@ -85,7 +85,8 @@ module _ (l : Layout) (s : Store) (few : l.pages ≤ 2 ^ 11) (h : IsBlank l s) w
 
 -- ---- what a store has that is spent
 
-pub no-memory : (l : Layout) (s : Store) → IsStore l s → stored s ≡ [] → (i : ℕ) → get_or s.pieces.items i None ≡ None
+pub no-memory : (l : RunLayout) (s : Store) → IsStore l s → stored s ≡ [] → (i : ℕ) → get_or s.pieces.items i None ≡
+    None
 no-memory l s is empty i = by (cases_lt i l.pages)
   where
     none : pages_at s i ≡ 0

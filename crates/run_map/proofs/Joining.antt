@@ -5,7 +5,7 @@ use Rattle.size_classes.specs.Spans.{Span, merged_before, merged, placed_in, giv
 use Rattle.size_classes.proofs.Runs.{EachPair}
 use Rattle.run_map.specs.Lengths.{without, beginning, ending}
 use Rattle.run_map.specs.Stored.{stored, IsStore}
-use Rattle.run_map.specs.declared.runs.Layout.{Layout}
+use Rattle.run_map.specs.declared.runs.RunLayout.{RunLayout}
 use Rattle.run_map.specs.declared.store.Store.{Store}
 use Rattle.run_map.proofs.StoreSteps.{spaced-lower, begins-there}
 use Rattle.run_map.proofs.SpanSteps.{spaced-merged, placed-past, given-steps}
@@ -75,13 +75,13 @@ joined-placed r j k runs one two some h apart once from size twice start long =
 -- ---- in a store
 
 -- the length that is read where a run ends
-pub ends-value : (l : Layout) (s : Store) (p x : ℕ) → IsStore l s → p ≤ l.pages → x ≡ get_or s.ends.items p x →
+pub ends-value : (l : RunLayout) (s : Store) (p x : ℕ) → IsStore l s → p ≤ l.pages → x ≡ get_or s.ends.items p x →
     x ≡ ending p (stored s)
 ends-value l s p x is le read =
     read ∙ get_or_default_zero s.ends.items p x (omega (arith, le, is.long.ends)) ∙ is.ends p le
 
 -- no run begins where the chunk ends
-pub none-past : (l : Layout) (s : Store) (p : ℕ) → IsStore l s → l.pages ≤ p → beginning p (stored s) ≡ 0
+pub none-past : (l : RunLayout) (s : Store) (p : ℕ) → IsStore l s → l.pages ≤ p → beginning p (stored s) ≡ 0
 none-past l s p is past = by (cases_lt 0 (beginning p (stored s)))
   where
     by : (0 < beginning p (stored s)) ⊎ (beginning p (stored s) ≤ 0) → beginning p (stored s) ≡ 0

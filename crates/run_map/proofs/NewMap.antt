@@ -5,20 +5,20 @@ use Rattle.ground.specs.Ground.{Origin, Segment}
 use Rattle.size_classes.specs.Sizes.{IsPage}
 use Rattle.size_classes.specs.Spans.{Span, placed_in, AreSpacedFrom}
 use Rattle.size_classes.proofs.Geometries.{by_page}
-use Rattle.run_map.specs.FreeRuns.{FreeRuns, IsChunk, all_free}
-use Rattle.run_map.specs.Spaced.{IsLayout, IsRun}
-use Rattle.run_map.specs.declared.runs.Layout.{Layout}
+use Rattle.run_map.specs.FreeRuns.{FreeRuns, IsChunkGround, all_free}
+use Rattle.run_map.specs.Spaced.{IsRunLayout, IsRun}
+use Rattle.run_map.specs.declared.runs.RunLayout.{RunLayout}
 use Rattle.run_map.proofs.Totals.{pages_in, total-one}
 
 -- what is known of the layout of a chunk, and of its memory
-pub record IsLaidOut (l : Layout) (order : ℕ) (s : Segment) : Type 0 where
+pub record IsLaidOut (l : RunLayout) (order : ℕ) (s : Segment) : Type 0 where
   pub page : l.page ≡ s.origin.size / 2 ^ order
   pub whole : length s.bytes ≡ l.pages * l.page
-  pub layout : IsLayout l
+  pub layout : IsRunLayout l
   pub size : s.origin.size ≡ l.pages * l.page
   pub is : IsPage l.page
 
-pub laid-out : (l : Layout) (order : ℕ) (s : Segment) → IsChunk order s → l.pages ≡ 2 ^ order →
+pub laid-out : (l : RunLayout) (order : ℕ) (s : Segment) → IsChunkGround order s → l.pages ≡ 2 ^ order →
     l.page ≡ length s.bytes / l.pages → s.origin.size ≤ 2 ^ 24 → IsLaidOut l order s
 laid-out l order s h many page small =
     let same : l.page ≡ s.origin.size / 2 ^ order = page ∙ ap₂ (λ (a b : ℕ). a / b) h.whole.1 many in
@@ -37,7 +37,7 @@ laid-out l order s h many page small =
       is = is;
     }
 
-pub whole-run : (l : Layout) (order : ℕ) (s : Segment) → IsChunk order s → l.pages ≡ 2 ^ order →
+pub whole-run : (l : RunLayout) (order : ℕ) (s : Segment) → IsChunkGround order s → l.pages ≡ 2 ^ order →
     l.site.origin ≡ s.origin →
     IsLaidOut l order s → IsRun l (record { first = 0; pages = l.pages; piece = s })
 whole-run l order s h many site laid = record {
@@ -58,7 +58,7 @@ pub one-total : (pages : ℕ) (old new : List Span) → new ≡ placed_in (0, pa
 one-total pages old new come none = sym (ap pages_in (one-run pages old new come none) ∙ total-one (0, pages))
 
 -- so all of the chunk is free
-pub all-free : (l : Layout) (order : ℕ) (s : Segment) (runs : List Span) → l.site.origin ≡ s.origin →
+pub all-free : (l : RunLayout) (order : ℕ) (s : Segment) (runs : List Span) → l.site.origin ≡ s.origin →
     l.page ≡ s.origin.size / 2 ^ order →
     runs ≡ (0, l.pages) ∷ [] → l.pages ≡ 2 ^ order →
     ◌≡◌ {A = FreeRuns} (record { origin = l.site.origin; page = l.page; order = order; runs = runs }) (all_free order s)

@@ -3,13 +3,13 @@ use Rattle.std.proofs.Common.{◌≡◌, ℕ, ◌+◌, ◌-◌, ◌*◌, ◌<◌
 use Rattle.std.proofs.Math.Nat.{mul-le-mul_right}
 use Rattle.ground.specs.Ground.{Segment, with_bytes, Follows}
 use Rattle.run_map.specs.Spaced.{IsPart, IsRun}
-use Rattle.run_map.specs.declared.runs.Layout.{Layout}
+use Rattle.run_map.specs.declared.runs.RunLayout.{RunLayout}
 use Rattle.run_map.specs.declared.runs.FreeRun.{FreeRun}
 
 pub product_parts : (a b k n : ℕ) → a + b ≡ n → a * k + b * k ≡ n * k
 product_parts a b k n e = sym (add-mul a b k) ∙ ap (λ (m : ℕ). m * k) e
 
-pub front_part : (l : Layout) (first long pages : ℕ) (s left : Segment) → IsPart l first long s → pages ≤ long →
+pub front_part : (l : RunLayout) (first long pages : ℕ) (s left : Segment) → IsPart l first long s → pages ≤ long →
     left ≡ with_bytes s (take (pages * l.page) s.bytes) → IsPart l first pages left
 front_part l first long pages s left part less is =
     let n = pages * l.page in
@@ -20,7 +20,7 @@ front_part l first long pages s left part less is =
       size = ap (λ (x : Segment). length x.bytes) is ∙ length-take-le n s.bytes short;
     }
 
-pub rest_run : (l : Layout) (r q : FreeRun) (pages : ℕ) (left : Segment) → IsRun l r → pages < r.pages →
+pub rest_run : (l : RunLayout) (r q : FreeRun) (pages : ℕ) (left : Segment) → IsRun l r → pages < r.pages →
     IsPart l r.first pages left
     → Follows left q.piece → q.piece.bytes ≡ drop (pages * l.page) r.piece.bytes → q.first ≡ r.first + pages →
     q.pages ≡ r.pages - pages → IsRun l q
@@ -41,13 +41,13 @@ rest_run l r q pages left is less part follows bytes from many =
     }
 
 -- the memory of two runs that meet
-pub follows_run : (l : Layout) (r s : FreeRun) → IsRun l r → IsRun l s → r.first + r.pages ≡ s.first →
+pub follows_run : (l : RunLayout) (r s : FreeRun) → IsRun l r → IsRun l s → r.first + r.pages ≡ s.first →
     Follows r.piece s.piece
 follows_run l r s a b e =
     let sum = product_parts r.first r.pages l.page s.first e in
     (b.part.origin ∙ sym a.part.origin, omega (arith, sum, a.part.start, a.part.size, b.part.start))
 
-pub joined_run : (l : Layout) (r s q : FreeRun) → IsRun l r → IsRun l s → r.first + r.pages ≡ s.first →
+pub joined_run : (l : RunLayout) (r s q : FreeRun) → IsRun l r → IsRun l s → r.first + r.pages ≡ s.first →
     q.first ≡ r.first → q.pages ≡ r.pages + s.pages
     → q.piece ≡ with_bytes r.piece (r.piece.bytes ++ s.piece.bytes) → IsRun l q
 joined_run l r s q a b e f n is =

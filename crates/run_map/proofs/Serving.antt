@@ -12,7 +12,7 @@ use Rattle.size_classes.specs.Spans.{Span, AreShorter}
 use Rattle.size_classes.proofs.OutLaws.{IsAmong, all-of}
 use Rattle.size_classes.proofs.CountLaws.{count-mono}
 use Rattle.run_map.specs.Stored.{stored, pages_at, is_marked, StandsAt, IsStore, IsUnmarked, AreUnnoted, IsUnserved, IsServing}
-use Rattle.run_map.specs.declared.runs.Layout.{Layout}
+use Rattle.run_map.specs.declared.runs.RunLayout.{RunLayout}
 use Rattle.run_map.specs.declared.store.Store.{Store}
 use Rattle.run_map.proofs.Choosing.{stands-under, class-rises, same-class, class-under-is, class-pages, least-found, find-first}
 use Rattle.run_map.proofs.LengthLaws.{spans-among}
@@ -46,7 +46,7 @@ lowest-noted s from some fits =
 
 -- ---- what the bits say of the runs
 
-module _ (l : Layout) (s : Store) (is : IsStore l s) where
+module _ (l : RunLayout) (s : Store) (is : IsStore l s) where
   -- a page that is marked is the first of a run that stands under the class
   marked-stands : (class first : ℕ) → class < 40 → first < 64 * s.width → is_marked s class first ≡ 1 →
       StandsAt s class first
@@ -115,7 +115,7 @@ not-second : (a b : Bool) → b ≡ false → (a && b) ≡ false
 not-second true b e = e
 not-second false b e = refl
 
-module _ (l : Layout) (s : Store) (is : IsStore l s) (g : Geometry) (h : IsGeometry g) (many : l.pages ≡ 2 ^ g.order)
+module _ (l : RunLayout) (s : Store) (is : IsStore l s) (g : Geometry) (h : IsGeometry g) (many : l.pages ≡ 2 ^ g.order)
     (pages first : ℕ) (own : IsPageClass g pages) (serves : IsServing s pages first) where
   abbrev runs : List Span
   runs = stored s

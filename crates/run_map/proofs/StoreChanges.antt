@@ -11,7 +11,7 @@ use Rattle.run_map.specs.Lengths.{spans_from, without, beginning, ending}
 use Rattle.run_map.specs.Spaced.{IsPart, IsRun, span_of_run}
 use Rattle.run_map.specs.Stored.{stored, pages_at, IsHeld, AreLong, IsNotedAnew, IsStore}
 use Rattle.run_map.specs.declared.runs.FreeRun.{FreeRun}
-use Rattle.run_map.specs.declared.runs.Layout.{Layout}
+use Rattle.run_map.specs.declared.runs.RunLayout.{RunLayout}
 use Rattle.run_map.specs.declared.store.Store.{Store}
 use Rattle.run_map.proofs.LengthLaws.{spans-put}
 use Rattle.run_map.proofs.StoreSteps.{beginning-at, begins-there, pulled}
@@ -33,7 +33,7 @@ pub record Changes (s t : Store) (class first end pages bit : ℕ) (piece : Opti
   pub mark : ChangesMark s t class first bit
   pub lens : (t.begins.len ≡ s.begins.len) × (t.ends.len ≡ s.ends.len) × (t.pieces.len ≡ s.pieces.len)
 
-module _ (l : Layout) (s t : Store) (class first end pages bit : ℕ) (piece : Option Segment)
+module _ (l : RunLayout) (s t : Store) (class first end pages bit : ℕ) (piece : Option Segment)
     (h : Changes s t class first end pages bit piece) (long : AreLong l s) (there : first < l.pages)
     (close : end ≤ l.pages) where
   long-kept : AreLong l t
@@ -104,7 +104,7 @@ module _ (l : Layout) (s t : Store) (class first end pages bit : ℕ) (piece : O
 
 -- ---- one goes
 
-pub pulled-store : (l : Layout) (s t : Store) (class first n : ℕ) → IsStore l s → n ≡ beginning first (stored s) →
+pub pulled-store : (l : RunLayout) (s t : Store) (class first n : ℕ) → IsStore l s → n ≡ beginning first (stored s) →
     0 < n →
     class < 40 → IsLastAtMost n class → Changes s t class first (first + n) 0 0 None → IsNotedAnew class s.noted t →
     IsStore l t
@@ -136,7 +136,7 @@ pulled-store l s t class first n is size some few last h noted =
 
 -- ---- one comes
 
-held-some : (l : Layout) (first n : ℕ) (piece : Segment) → 0 < n → IsPart l first n piece →
+held-some : (l : RunLayout) (first n : ℕ) (piece : Segment) → 0 < n → IsPart l first n piece →
     IsHeld l first n (Some piece)
 held-some l first zero piece some part = absurd (omega (arith, some))
 held-some l first (suc n) piece some part = part
@@ -146,7 +146,7 @@ pub none-yet : (s : Store) (r : Span) → AreSpacedFrom 0 (placed_in r (stored s
 none-yet s r spaced = sym (begins-at s r.0) ∙ (placed-alone 0 r (stored s) spaced).0
 
 -- what a put makes of the runs
-pub put-runs : (l : Layout) (s t : Store) (first n : ℕ) → IsStore l s → first < l.pages → 0 < n →
+pub put-runs : (l : RunLayout) (s t : Store) (first n : ℕ) → IsStore l s → first < l.pages → 0 < n →
     AreSpacedFrom 0 (placed_in (first, n) (stored s)) → t.begins.items ≡ slice_set s.begins.items first n →
     stored t ≡ placed_in (first, n) (stored s)
 put-runs l s t first n is there some spaced begins =
@@ -155,7 +155,7 @@ put-runs l s t first n is there some spaced begins =
     ∙ spans-put 0 first n s.begins.items (omega (arith, there, is.long.begins)) (none-yet s (first, n) spaced) some
     ∙ ap (λ (k : ℕ). placed_in (k, n) (stored s)) from
 
-pub put-store : (l : Layout) (s t : Store) (class : ℕ) (r : FreeRun) → IsStore l s → IsRun l r →
+pub put-store : (l : RunLayout) (s t : Store) (class : ℕ) (r : FreeRun) → IsStore l s → IsRun l r →
     AreSpacedFrom 0 (placed_in (span_of_run r) (stored s)) → class < 40 → IsLastAtMost r.pages class →
     Changes s t class r.first (r.first + r.pages) r.pages 1 (Some r.piece) →
     ChangesBit class 1 (s.noted ∷ []) (t.noted ∷ []) → IsStore l t
@@ -183,7 +183,7 @@ put-store l s t class r is run spaced few last h noted =
     }
 
 -- and none has its memory there
-pub none-held : (l : Layout) (s : Store) (r : Span) (ps : List (Option Segment)) (x result : Option Segment) →
+pub none-held : (l : RunLayout) (s : Store) (r : Span) (ps : List (Option Segment)) (x result : Option Segment) →
     IsStore l s →
     AreSpacedFrom 0 (placed_in r (stored s)) → r.0 < l.pages → ps ≡ s.pieces.items → x ≡ get_or ps r.0 x → result ≡ x →
     result ≡ None

@@ -14,7 +14,7 @@ use Rattle.std.proofs.lemmas.List.{get_or_default}
 use Rattle.ground.specs.Ground.{Segment}
 use Rattle.run_map.specs.Spaced.{IsPart}
 use Rattle.run_map.specs.Stored.{stored, IsStore, IsHeld}
-use Rattle.run_map.specs.declared.runs.Layout.{Layout}
+use Rattle.run_map.specs.declared.runs.RunLayout.{RunLayout}
 use Rattle.run_map.specs.declared.store.Store.{Store}
 use mathlib.Core.Logic.{inl, inr}
 
@@ -138,7 +138,7 @@ begins-value ns i x there read =
     ∙ sym (subst (λ (k : ℕ). beginning k (spans_from 0 ns) ≡ get_or ns i 0) from (beginning-at 0 i ns))
 
 -- what is read at the page where a run begins
-pub at-page : (l : Layout) (s : Store) (i x result : ℕ) → IsStore l s → 0 < beginning i (stored s) →
+pub at-page : (l : RunLayout) (s : Store) (i x result : ℕ) → IsStore l s → 0 < beginning i (stored s) →
     x ≡ get_or s.begins.items i x → result ≡ x → (0 < result) × (i + result ≤ l.pages) × (i < l.pages)
 at-page l s i x result is some read same =
     let there = begins-there s.begins.items i some in
@@ -147,13 +147,14 @@ at-page l s i x result is some read same =
     let within : i < l.pages = omega (arith, there, is.long.begins) in
     (omega (arith, some, value, same), omega (arith, is.within i within, stands, same), within)
 
-held-piece : (l : Layout) (first n : ℕ) (piece : Option Segment) → 0 < n → IsHeld l first n piece →
+held-piece : (l : RunLayout) (first n : ℕ) (piece : Option Segment) → 0 < n → IsHeld l first n piece →
     MatchOption piece ⊥ (IsPart l first n)
 held-piece l first zero piece some h = absurd (omega (arith, some))
 held-piece l first (suc n) piece some h = h
 
 -- the memory that is read at the page where a run begins
-pub piece-at : (l : Layout) (s : Store) (i : ℕ) (ps : List (Option Segment)) (x result : Option Segment) → IsStore l s →
+pub piece-at : (l : RunLayout) (s : Store) (i : ℕ) (ps : List (Option Segment)) (x result : Option Segment) → IsStore l
+    s →
     0 < beginning i (stored s) → ps ≡ s.pieces.items → x ≡ get_or ps i x → result ≡ x →
     MatchOption result ⊥ (IsPart l i (beginning i (stored s)))
 piece-at l s i ps x result is some e read same =

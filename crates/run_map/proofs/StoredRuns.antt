@@ -7,7 +7,7 @@ use Rattle.size_classes.proofs.Runs.{EachPair}
 use Rattle.size_classes.proofs.OutLaws.{IsAmong}
 use Rattle.run_map.specs.Lengths.{spans_from}
 use Rattle.run_map.specs.Stored.{stored, pages_at, IsStore}
-use Rattle.run_map.specs.declared.runs.Layout.{Layout}
+use Rattle.run_map.specs.declared.runs.RunLayout.{RunLayout}
 use Rattle.run_map.specs.declared.store.Store.{Store}
 use mathlib.Core.Logic.{inl, inr}
 
@@ -58,7 +58,7 @@ among-from at (m ∷ ns) x is =
         }
     here some ih (inr is) = later ih is
 
-pub among-stored : (l : Layout) (s : Store) (x : Span) → IsStore l s → IsAmong x (stored s) →
+pub among-stored : (l : RunLayout) (s : Store) (x : Span) → IsStore l s → IsAmong x (stored s) →
     (x.0 < l.pages) × (pages_at s x.0 ≡ x.1) × (0 < x.1)
 among-stored l s x is among =
     let at = among-from 0 s.begins.items x among in
@@ -66,7 +66,7 @@ among-stored l s x is among =
     (omega (arith, same, at.there, is.long.begins), ap (pages_at s) same ∙ at.pages, at.some)
 
 -- each lies in the chunk
-pub stored-within : (l : Layout) (s : Store) → IsStore l s → EachPair (λ r. r.0 + r.1 ≤ l.pages) (stored s)
+pub stored-within : (l : RunLayout) (s : Store) → IsStore l s → EachPair (λ r. r.0 + r.1 ≤ l.pages) (stored s)
 stored-within l s is =
     each-among (λ r. r.0 + r.1 ≤ l.pages) (stored s)
     (λ x among. let at = among-stored l s x is among in omega (arith, is.within x.0 at.0, at.1))

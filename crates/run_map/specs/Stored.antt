@@ -8,7 +8,7 @@ use Rattle.size_classes.specs.PageCounts.{IsLastAtMost}
 use Rattle.size_classes.specs.Spans.{Span, AreSpacedFrom}
 use Rattle.run_map.specs.Lengths.{spans_from, ending}
 use Rattle.run_map.specs.Spaced.{IsPart}
-use Rattle.run_map.specs.declared.runs.Layout.{Layout}
+use Rattle.run_map.specs.declared.runs.RunLayout.{RunLayout}
 use Rattle.run_map.specs.declared.store.Store.{Store}
 
 -- the free runs
@@ -20,7 +20,7 @@ abbrev pub pages_at : Store → ℕ → ℕ
 pages_at s first = slice_index s.begins.items first
 
 -- the memory of a run of so many pages from a page on, or none where there is no run
-abbrev pub IsHeld : Layout → ℕ → ℕ → Option Segment → Type 0
+abbrev pub IsHeld : RunLayout → ℕ → ℕ → Option Segment → Type 0
 IsHeld l first zero piece = piece ≡ None
 IsHeld l first (suc n) piece = MatchOption piece ⊥ (IsPart l first (suc n))
 
@@ -37,7 +37,7 @@ abbrev pub StandsAt : Store → ℕ → ℕ → Type 0
 StandsAt s class first = (0 < pages_at s first) × IsLastAtMost (pages_at s first) class
 
 -- how long the lists are
-pub record AreLong (l : Layout) (s : Store) : Type 0 where
+pub record AreLong (l : RunLayout) (s : Store) : Type 0 where
   pub few : l.pages ≤ 2 ^ 11
   pub begins : length s.begins.items ≡ l.pages
   pub ends : length s.ends.items ≡ l.pages + 1
@@ -47,7 +47,7 @@ pub record AreLong (l : Layout) (s : Store) : Type 0 where
   pub lens : (s.begins.len ≡ l.pages) × (s.ends.len ≡ l.pages + 1) × (s.pieces.len ≡ l.pages)
 
 -- which bits are set: the first page of each free run, under its page class alone
-pub record AreMarked (l : Layout) (s : Store) : Type 0 where
+pub record AreMarked (l : RunLayout) (s : Store) : Type 0 where
   pub set : (class first : ℕ) → class < 40 → first < l.pages → StandsAt s class first →
       is_marked s class first ≡ 1
   pub clear : (class first : ℕ) → class < 40 → first < 64 * s.width → (StandsAt s class first → ⊥) →
@@ -105,7 +105,7 @@ pub record IsServing (s : Store) (pages first : ℕ) : Type 0 where
   pub lowest : IsLowestMarked s class first
 
 -- the free runs of a chunk, which no two of them meet
-pub record IsStore (l : Layout) (s : Store) : Type 0 where
+pub record IsStore (l : RunLayout) (s : Store) : Type 0 where
   pub long : AreLong l s
   pub spaced : AreSpacedFrom 0 (stored s)
   pub within : (first : ℕ) → first < l.pages → first + pages_at s first ≤ l.pages

@@ -5,9 +5,9 @@ ghost use Rattle.ground.specs.Ground.{IsWhole};
 ghost use Rattle.size_classes.specs.Sizes.{IsPageClass};
 ghost use Rattle.size_classes.specs.Pages.{chosen};
 ghost use Rattle.size_classes.specs.Spans.{run_lengths, given_back, IsOut, AreShorter};
-ghost use Rattle.run_map.specs.FreeRuns.{IsChunk, all_free, with_runs, span_of, geometry_in, IsPages, IsTaken, ArePagesOut, KeepsOut, KeepsOutBut};
+ghost use Rattle.run_map.specs.FreeRuns.{IsChunkGround, all_free, with_runs, span_of, geometry_in, IsPages, IsTaken, ArePagesOut, KeepsOut, KeepsOutBut};
 
-use crate::runs::{FreeRun, Layout, give_to, take_from};
+use crate::runs::{FreeRun, RunLayout, give_to, take_from};
 use crate::store::Store;
 use ground::{Piece, Site};
 use std::alloc::Global;
@@ -22,7 +22,7 @@ use std::mem::ManuallyDrop;
 pub struct RunMap {
     store: Store,
     order: u32,
-    layout: Layout,
+    layout: RunLayout,
     // The bytes of all free runs.
     total: u32,
 }
@@ -43,12 +43,12 @@ impl RunMap {
     /// The map of a whole ground, all of it free. Want of memory hands the ground back.
     pub fn new(alloc: Global, order: u32, piece: Piece) -> Result<RunMap, Piece>
         requires order { (3 ≤ order) × (order ≤ 11) }
-        requires chunk { IsChunk order piece }
+        requires chunk { IsChunkGround order piece }
         ensures { MatchResult result (λ map. map ≡ all_free order piece) (λ back. back ≡ piece) }
     {
         let pages = 2u32.pow(order);
         let bytes = piece.len();
-        let layout = Layout {
+        let layout = RunLayout {
             page: bytes / pages as usize,
             pages,
             site: Site::of(&piece),

@@ -2,10 +2,10 @@
 
 ghost use Rattle.std.specs.Prelude.{◌≡◌, ◌*◌, ◌<◌, ◌≤◌, ◌^◌, [], ◌∷◌, length, MatchOption};
 ghost use Rattle.bit_words.specs.Words.{ChangesBit};
-ghost use Rattle.run_map.specs.Spaced.{IsLayout};
+ghost use Rattle.run_map.specs.Spaced.{IsRunLayout};
 ghost use Rattle.run_map.specs.Stored.{IsStore, IsNotedAnew, IsUnmarked, IsLowestMarked, IsLeastNoted, AreUnnoted, IsServing, IsUnserved, mark_of};
 
-use crate::runs::Layout;
+use crate::runs::RunLayout;
 use crate::store::{CLASSES, Store, class_under};
 use bit_words::{WIDTH, clear, lowest_set, set};
 
@@ -80,7 +80,7 @@ impl Store {
 
     // The first page of the run that serves a request for so many pages: the lowest that stands
     // under the least page class that has one, from theirs on.
-    pub(crate) fn serving(&self, layout: &Layout, pages: u32) -> Option<u32>
+    pub(crate) fn serving(&self, layout: &RunLayout, pages: u32) -> Option<u32>
         requires store { IsStore layout.now self.now }
         requires pages { (0 < pages) × (pages ≤ 2 ^ 11) }
         ensures { MatchOption result (IsUnserved self.now pages) (IsServing self.now pages) }

@@ -3,7 +3,7 @@
 ghost use Rattle.std.specs.Prelude.{◌≡◌, ◌*◌, ◌+◌, ◌-◌, ◌<◌, ◌≤◌, All};
 ghost use Rattle.size_classes.specs.Spans.{AreApart, taken_from, given_back};
 ghost use Rattle.run_map.specs.Lengths.{beginning, ending, without};
-ghost use Rattle.run_map.specs.Spaced.{IsLayout, IsPart, IsRun, span_of_run};
+ghost use Rattle.run_map.specs.Spaced.{IsRunLayout, IsPart, IsRun, span_of_run};
 ghost use Rattle.run_map.specs.Stored.{IsStore, stored};
 
 use crate::store::Store;
@@ -18,15 +18,15 @@ pub(crate) struct FreeRun {
 
 // Where a chunk lies: its ground, the bytes of a page, and how many pages it has.
 #[derive(Drop)]
-pub(crate) struct Layout {
+pub(crate) struct RunLayout {
     pub(crate) page: usize,
     pub(crate) pages: u32,
     pub(crate) site: Site,
 }
 
 // The first pages of the run that begins at a page. The rest of it, if any, stays free.
-pub(crate) fn take_from(store: &mut Store, layout: &Layout, first: u32, pages: u32) -> Piece
-    requires store { IsLayout layout.now × IsStore layout.now store.old }
+pub(crate) fn take_from(store: &mut Store, layout: &RunLayout, first: u32, pages: u32) -> Piece
+    requires store { IsRunLayout layout.now × IsStore layout.now store.old }
     requires run { (0 < pages) × (pages ≤ beginning first (stored store.old)) }
     ensures store { IsStore layout.now store.new }
     ensures runs { stored store.new ≡ taken_from first pages (stored store.old) }
@@ -51,8 +51,8 @@ pub(crate) fn take_from(store: &mut Store, layout: &Layout, first: u32, pages: u
 }
 
 // A run joined with the free run that ends where it begins, which goes.
-fn join_before(store: &mut Store, layout: &Layout, run: FreeRun) -> FreeRun
-    requires store { IsLayout layout.now × IsStore layout.now store.old }
+fn join_before(store: &mut Store, layout: &RunLayout, run: FreeRun) -> FreeRun
+    requires store { IsRunLayout layout.now × IsStore layout.now store.old }
     requires run { IsRun layout.now run × All (AreApart (span_of_run run)) (stored store.old) }
     ensures store { IsStore layout.now store.new }
     ensures runs { stored store.new
@@ -83,8 +83,8 @@ fn join_before(store: &mut Store, layout: &Layout, run: FreeRun) -> FreeRun
 }
 
 // A run joined with the free run that begins where it ends, which goes.
-fn join_after(store: &mut Store, layout: &Layout, run: FreeRun) -> FreeRun
-    requires store { IsLayout layout.now × IsStore layout.now store.old }
+fn join_after(store: &mut Store, layout: &RunLayout, run: FreeRun) -> FreeRun
+    requires store { IsRunLayout layout.now × IsStore layout.now store.old }
     requires run { IsRun layout.now run }
     ensures store { IsStore layout.now store.new }
     ensures runs { stored store.new ≡ without (run.first + run.pages) (stored store.old) }
@@ -114,8 +114,8 @@ fn join_after(store: &mut Store, layout: &Layout, run: FreeRun) -> FreeRun
 }
 
 // A run comes to the others, and is merged with the free runs beside it.
-pub(crate) fn give_to(store: &mut Store, layout: &Layout, run: FreeRun)
-    requires store { IsLayout layout.now × IsStore layout.now store.old }
+pub(crate) fn give_to(store: &mut Store, layout: &RunLayout, run: FreeRun)
+    requires store { IsRunLayout layout.now × IsStore layout.now store.old }
     requires run { IsRun layout.now run × All (AreApart (span_of_run run)) (stored store.old) }
     ensures store { IsStore layout.now store.new }
     ensures runs { stored store.new ≡ given_back (span_of_run run) (stored store.old) }

@@ -7,10 +7,10 @@ ghost use Rattle.std.specs.Prelude.{◌≡◌, ℕ, ◌*◌, ◌+◌, ◌<◌, �
 ghost use Rattle.size_classes.specs.PageCounts.{IsLastAtMost};
 ghost use Rattle.size_classes.specs.Spans.{AreSpacedFrom, placed_in};
 ghost use Rattle.run_map.specs.Lengths.{beginning, without};
-ghost use Rattle.run_map.specs.Spaced.{IsLayout, IsRun, span_of_run};
+ghost use Rattle.run_map.specs.Spaced.{IsRunLayout, IsRun, span_of_run};
 ghost use Rattle.run_map.specs.Stored.{IsStore, stored};
 
-use crate::runs::{FreeRun, Layout};
+use crate::runs::{FreeRun, RunLayout};
 use bit_words::WIDTH;
 use ground::Piece;
 use size_classes::last_at_most;
@@ -62,7 +62,7 @@ fn no_pieces(alloc: Global, pages: usize) -> Result<Vec<Option<Piece>>, AllocErr
 
 impl Store {
     // The runs of a chunk that has none.
-    pub(crate) fn new(alloc: Global, layout: &Layout) -> Result<Store, AllocError>
+    pub(crate) fn new(alloc: Global, layout: &RunLayout) -> Result<Store, AllocError>
         requires { layout.now.pages ≤ 2 ^ 11 }
         ensures { IfOk result (λ s. IsStore layout.now s × (stored s ≡ [])) }
     {
@@ -83,7 +83,7 @@ impl Store {
     }
 
     // Spends a store that has no run.
-    pub(crate) fn close(self, layout: &Layout)
+    pub(crate) fn close(self, layout: &RunLayout)
         requires { IsStore layout.now self × (stored self ≡ []) }
     {
         let Store {
@@ -104,8 +104,8 @@ impl Store {
     }
 
     // The run that begins at a page, which goes.
-    pub(crate) fn pull(&mut self, layout: &Layout, first: u32) -> FreeRun
-        requires store { IsLayout layout.now × IsStore layout.now self.old }
+    pub(crate) fn pull(&mut self, layout: &RunLayout, first: u32) -> FreeRun
+        requires store { IsRunLayout layout.now × IsStore layout.now self.old }
         requires run { 0 < beginning first (stored self.old) }
         ensures store { IsStore layout.now self.new }
         ensures runs { stored self.new ≡ without first (stored self.old) }
@@ -127,8 +127,8 @@ impl Store {
     }
 
     // A run comes to the others.
-    pub(crate) fn put(&mut self, layout: &Layout, run: FreeRun)
-        requires store { IsLayout layout.now × IsStore layout.now self.old }
+    pub(crate) fn put(&mut self, layout: &RunLayout, run: FreeRun)
+        requires store { IsRunLayout layout.now × IsStore layout.now self.old }
         requires run { IsRun layout.now run }
         requires spaced { AreSpacedFrom 0 (placed_in (span_of_run run) (stored self.old)) }
         ensures store { IsStore layout.now self.new }

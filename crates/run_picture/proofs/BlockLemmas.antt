@@ -6,7 +6,7 @@ use Rattle.pool_law.specs.declared.id.RegionId.{RegionId}
 use Rattle.pool_law.specs.Arenas.{listed}
 use Rattle.pool_law.specs.Logs.{History}
 use Rattle.pool_law.proofs.HistoryLemmas.{append-nil}
-use Rattle.arena_law.specs.Returns.{gives}
+use Rattle.arena_laws.specs.Returns.{gives}
 use Rattle.run_picture.specs.declared.blocks.Return.{Return}
 use Rattle.run_picture.specs.declared.blocks.Block.{Block}
 use Rattle.run_picture.specs.declared.history.Done.{Done}

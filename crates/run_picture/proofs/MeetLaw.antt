@@ -16,9 +16,9 @@ use Rattle.pool_law.specs.Histories.{after, arena_after, IsAccepted}
 use Rattle.pool_law.specs.Logs.{History, dids, history_of}
 use Rattle.pool_law.specs.Legal.{IsLegal, logs_of}
 use Rattle.pool_law.proofs.HistoryLemmas.{append-assoc}
-use Rattle.arena_law.specs.Returns.{gives}
-use Rattle.arena_law.specs.Slots.{EachOf, EachTwo}
-use Rattle.arena_law.proofs.ReturnLaw.{after-append, comes-back}
+use Rattle.arena_laws.specs.Returns.{gives}
+use Rattle.arena_laws.specs.Slots.{EachOf, EachTwo}
+use Rattle.arena_laws.proofs.ReturnLaw.{after-append, comes-back}
 use Rattle.run_picture.specs.declared.blocks.Return.{Return}
 use Rattle.run_picture.specs.Blocks.{return_from, region_taken, block_of, blocks_from, arena_blocks, IsLaterThan, NeverMeet, LieApart}
 

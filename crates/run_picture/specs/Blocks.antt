@@ -10,8 +10,8 @@ use Rattle.pool_law.specs.Arenas.{listed}
 use Rattle.pool_law.specs.Places.{Overlap}
 use Rattle.pool_law.specs.Logs.{History, history_of}
 use Rattle.pool_law.specs.Legal.{logs_of}
-use Rattle.arena_law.specs.Returns.{gives}
-use Rattle.arena_law.specs.Slots.{EachTwo}
+use Rattle.arena_laws.specs.Returns.{gives}
+use Rattle.arena_laws.specs.Slots.{EachTwo}
 use Rattle.run_picture.specs.declared.blocks.Return.{Return}
 use Rattle.run_picture.specs.declared.blocks.Block.{Block}
 

@@ -3,15 +3,14 @@
 ghost use Rattle.std.specs.Prelude.{◌≡◌, ◌++◌, Some, if◌then◌else◌, IfOk, OnOk};
 ghost use Rattle.pool_law.specs.declared.id.RegionId.{RegionId};
 ghost use Rattle.pool_law.specs.Arenas.{listed};
-ghost use Rattle.arena_law.specs.Returns.{gives};
+ghost use Rattle.arena_laws.specs.Returns.{gives};
 ghost use Rattle.run_picture.specs.Blocks.{arena_blocks, blocks_from, region_taken};
 ghost use Rattle.run_picture.specs.Returning.{block_before, return_in};
 ghost use Rattle.run_picture.specs.Slots.{dones_in};
 
 use crate::history::{Done, history_of};
 use crate::returns::Returns;
-use pool_law::list::Items;
-use pool_law::{Did, RegionId, Run};
+use pool_law::{Did, Items, RegionId, Run};
 use std::alloc::{AllocError, Global};
 
 /// The note that gave a taking back.

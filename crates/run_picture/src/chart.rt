@@ -1,6 +1,6 @@
 //! Where the notes and bytes of an arena are drawn.
 
-use pool_law::list::Items;
+use pool_law::Items;
 
 /// Where the first moment is drawn, in tenths of a pixel from the left.
 pub const LEFT: u32 = 1500;

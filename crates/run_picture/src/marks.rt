@@ -1,7 +1,6 @@
 //! What a picture is made of: marks in layers.
 
-use pool_law::Bytes;
-use pool_law::list::Items;
+use pool_law::{Bytes, Items};
 
 /// How a mark looks: the class that the picture's style sheet names.
 #[derive(Clone, Copy, Drop)]

@@ -9,7 +9,7 @@ use Rattle.pool_law.specs.declared.run.Answered.{Answered}
 use Rattle.pool_law.specs.declared.run.LaneLog.{LaneLog}
 use Rattle.pool_law.specs.declared.run.Run.{Run}
 use Rattle.pool_law.specs.Options.{◌>>=◌}
-use Rattle.pool_law.specs.Readers.{Entries, read_all}
+use Rattle.pool_law.specs.Readers.{ToldNotes, read_all}
 use Rattle.pool_law.specs.Lanes.{not_carried_out}
 use Rattle.pool_law.specs.LaneStates.{LaneState, new_lane, log_at}
 use Rattle.pool_law.specs.LaneLaw.{IsLaneLog, sweep_period, lane_step, lane_run, before_stop, stopped_run, pieces, note_counts, replies_in}
@@ -17,7 +17,7 @@ use Rattle.pool_law.specs.Logs.{of_lane}
 use Rattle.pool_law.specs.Legal.{IsLegal, replies_of}
 
 -- a lane that runs replies to each of its commands
-lane_run-length : (period : ℕ) (shape : Shape) (lane : ℕ) (s : LaneState) (cs : List Command) (groups : List Entries)
+lane_run-length : (period : ℕ) (shape : Shape) (lane : ℕ) (s : LaneState) (cs : List Command) (groups : List ToldNotes)
     (replies : List Reply) (last : LaneState)
     → lane_run period shape lane s cs groups ≡ Some (replies, last) → length replies ≡ length cs
 lane_run-length period shape lane s [] [] replies last run =
@@ -48,7 +48,7 @@ lane_run-length period shape lane s (c ∷ cs) (g ∷ groups) replies last run =
     first (Some p) is more = second p (lane_run period shape lane p.1 cs groups) is (λ rs end. more p.1 rs end)
 
 -- so does one that was stopped
-stopped_run-length : (lane : ℕ) (cs : List Command) (groups : List Entries) (replies : List Reply)
+stopped_run-length : (lane : ℕ) (cs : List Command) (groups : List ToldNotes) (replies : List Reply)
     → stopped_run lane cs groups ≡ Some replies → length replies ≡ length cs
 stopped_run-length lane [] [] replies run = let same : [] ≡ replies = cc run in sym (ap length same)
 stopped_run-length lane [] (g ∷ groups) replies run = absurd (cc run)
@@ -73,7 +73,7 @@ stopped_run-length lane (c ∷ cs) (g ∷ groups) replies run =
     first (Some x) is more = second (stopped_run lane cs groups) is more
 
 -- a lane has as many replies as commands
-pub replies-length : (shape : Shape) (lane : ℕ) (commands : List Command) (answers : List Answered) (es : Entries)
+pub replies-length : (shape : Shape) (lane : ℕ) (commands : List Command) (answers : List Answered) (es : ToldNotes)
     → IsLaneLog shape lane commands answers es → length answers ≡ length commands
 replies-length shape lane commands answers es log =
     let n = before_stop (replies_in answers) in

@@ -9,7 +9,7 @@ use Rattle.pool_law.specs.declared.run.Reply.{Reply}
 use Rattle.pool_law.specs.declared.run.Run.{Run}
 use Rattle.pool_law.specs.LaneLaw.{replies_in}
 use Rattle.pool_law.specs.Summary.{is_refusal, bytes_in, replies_given, all_bytes}
-use Rattle.run_report.specs.Told.{refusals_by, read_by, total_by}
+use Rattle.run_report.specs.ReplyTotals.{refusals_by, read_by, total_by}
 
 -- a sum over a list of lists is that of their sums
 sum_by-flat_map : {X Y : Type 0} (f : Y → ℕ) (g : X → List Y) (xs : List X)

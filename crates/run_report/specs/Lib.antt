@@ -1,3 +1,3 @@
 pub mod Words
 pub mod Roots
-pub mod Told
+pub mod ReplyTotals

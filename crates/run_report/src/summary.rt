@@ -6,7 +6,7 @@ ghost use Rattle.pool_law.specs.Text.{line, named};
 ghost use Rattle.pool_law.specs.Summary.{blocks_in, generated_line, summary_of};
 
 use crate::roots::{RootCounts, counts_of};
-use crate::told::{Told, told_of};
+use crate::told::{ReplyTotals, told_of};
 use crate::writer::Writer;
 use pool_law::{Bytes, CommandList, Run};
 use std::alloc::{AllocError, Global};
@@ -74,7 +74,7 @@ impl Writer {
     }
 
     // The line of the bytes that were read.
-    fn read_line(&mut self, told: Told) -> Result<(), AllocError>
+    fn read_line(&mut self, told: ReplyTotals) -> Result<(), AllocError>
         ensures { OnOk result (self.new ≡ self.old
             ++ line (named (codes "read") told.read (named (codes "sum") told.total []))) }
     {

@@ -2,13 +2,13 @@
 
 ghost use Rattle.std.specs.Prelude.{◌≡◌, ◌*◌, ◌^◌, ◌≤◌, length, filter, sum, sum_by, All};
 ghost use Rattle.pool_law.specs.Summary.{all_bytes, replies_given, bytes_in, is_refusal};
-ghost use Rattle.run_report.specs.Told.{read_by, read_in, refusals_by, refusals_in, total_by, total_in};
+ghost use Rattle.run_report.specs.ReplyTotals.{read_by, read_in, refusals_by, refusals_in, total_by, total_in};
 
 use pool_law::{Answered, LaneLog, Reply, Run};
 
 /// How many replies refuse, how many bytes the others tell, and the sum of their values.
 #[derive(Clone, Copy, Drop)]
-pub struct Told {
+pub struct ReplyTotals {
     pub refused: u64,
     pub read: u128,
     pub total: u128,
@@ -16,7 +16,7 @@ pub struct Told {
 
 /// What the replies of a run tell. No sum overflows where the lanes and the replies of each are as
 /// few as in any legal run.
-pub fn told_of(run: &Run) -> Told
+pub fn told_of(run: &Run) -> ReplyTotals
     requires lanes { length run.now.logs ≤ 16 }
     requires few { All (λ log. length log.replies ≤ 65536) run.now.logs }
     ensures refused { result.refused ≡ length (filter is_refusal (replies_given run.now)) }
@@ -27,7 +27,7 @@ pub fn told_of(run: &Run) -> Told
 }
 
 // What these logs tell.
-fn told_over(logs: &[LaneLog]) -> Told
+fn told_over(logs: &[LaneLog]) -> ReplyTotals
     requires lanes { length logs.now ≤ 16 }
     requires few { All (λ log. length log.replies ≤ 65536) logs.now }
     ensures refused { result.refused ≡ sum_by refusals_by logs.now }
@@ -43,7 +43,7 @@ fn told_over(logs: &[LaneLog]) -> Told
         read += told.read;
         total += told.total;
     }
-    Told {
+    ReplyTotals {
         refused,
         read,
         total,
@@ -51,7 +51,7 @@ fn told_over(logs: &[LaneLog]) -> Told
 }
 
 // What the replies of a lane tell.
-fn told_by(answers: &[Answered]) -> Told
+fn told_by(answers: &[Answered]) -> ReplyTotals
     requires few { length answers.now ≤ 65536 }
     ensures refused { result.refused ≡ sum_by refusals_in answers.now }
     ensures read { result.read ≡ sum_by read_in answers.now }
@@ -69,7 +69,7 @@ fn told_by(answers: &[Answered]) -> Told
         read += bytes.len() as u128;
         total += sum_of(bytes);
     }
-    Told {
+    ReplyTotals {
         refused,
         read,
         total,

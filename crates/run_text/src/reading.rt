@@ -17,7 +17,7 @@ use std::alloc::{AllocError, Global};
 
 /// What a text tells of a run of known trace and shape.
 #[derive(Drop)]
-struct Told {
+struct TextParts {
     logs: LaneLogs,
     chunks: ChunkEnds,
     leaks: LeakList,
@@ -34,7 +34,7 @@ struct Told {
 pub fn read_run(alloc: Global, trace: Trace, shape: Shape, text: &str) -> Result<Run, TextNo>
     ensures { IfOk result (λ run. Reads trace shape text.now run) }
 {
-    let Told {
+    let TextParts {
         logs,
         chunks,
         leaks,
@@ -70,14 +70,14 @@ fn told_by(
     lanes: &[CommandList],
     shape: &Shape,
     text: &str,
-) -> Result<Told, TextNo> {
+) -> Result<TextParts, TextNo> {
     let lines = lines_of(alloc, text)?;
     let (replies, from) = replies_of(alloc, lanes, &lines)?;
     let to = end_of(&lines, from, "note ");
     let notes = notes_of(alloc, lanes.len(), shape.arenas, &lines, from, to)?;
     let logs = logs_of(alloc, lanes, replies, notes)?;
     let end = end_of(&lines, to, "chunk ");
-    Ok(Told {
+    Ok(TextParts {
         logs,
         chunks: chunks_of(alloc, &lines, to, end)?,
         leaks: leaks_of(alloc, &lines, end)?,

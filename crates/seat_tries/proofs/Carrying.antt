@@ -9,7 +9,7 @@ use Rattle.pool_law.specs.declared.note.Object.TheVariants.{Root}
 use Rattle.pool_law.specs.declared.note.RefDid.TheVariants.{Look, Retain}
 use Rattle.pool_law.specs.Naming.{noted_by}
 use Rattle.pool_law.specs.Same.{same_root}
-use Rattle.table_law.specs.NoteCounts.{one_if_so, view_of_root}
+use Rattle.history_laws.specs.NoteCounts.{one_if_so, view_of_root}
 use Rattle.pool_table.specs.declared.views.Entry.{Entry}
 use Rattle.pool_table.specs.declared.views.Entry.TheVariants.{At, Ref}
 use Rattle.pool_table.specs.declared.views.SeatView.{SeatView}

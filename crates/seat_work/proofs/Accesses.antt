@@ -14,7 +14,7 @@ use Rattle.pool_table.specs.Counts.{HasCount}
 use Rattle.pool_table.specs.Numbers.{IsAbove}
 use Rattle.shared_pool.specs.SeatViews.{view_of, HasView}
 use Rattle.pool_table.specs.Views.{with_entry}
-use Rattle.table_law.specs.Histories.{IsHistory}
+use Rattle.history_laws.specs.Histories.{IsHistory}
 use Rattle.shared_pool.specs.declared.pool.SharedPool.{SharedPool}
 use Rattle.pool_table.specs.Letters.{sent_on}
 use Rattle.shared_pool.specs.RootNotes.{access}

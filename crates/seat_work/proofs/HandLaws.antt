@@ -5,7 +5,7 @@ use Rattle.pool_law.specs.declared.id.RootId.{RootId}
 use Rattle.pool_law.specs.declared.id.RegionId.{RegionId}
 use Rattle.pool_law.specs.declared.note.Object.TheVariants.{Cache}
 use Rattle.pool_law.specs.Same.{same_object}
-use Rattle.table_law.specs.NoteCounts.{is_taking, uses_in}
+use Rattle.history_laws.specs.NoteCounts.{is_taking, uses_in}
 use Rattle.pool_table.specs.declared.views.Entry.{Entry}
 use Rattle.pool_table.specs.declared.views.Entry.TheVariants.{At, Ref, Busy}
 use Rattle.pool_table.specs.declared.views.SeatView.{SeatView}

@@ -6,7 +6,7 @@ use Rattle.step_law.specs.Settings.{Setting}
 use Rattle.pool_law.specs.declared.id.Region.{Region}
 use Rattle.pool_law.specs.Places.{IsInPlace}
 use Rattle.pool_law.proofs.PatternLemmas.{same_number, same_taking-refl}
-use Rattle.table_law.specs.NoteCounts.{is_taking, uses_in}
+use Rattle.history_laws.specs.NoteCounts.{is_taking, uses_in}
 use Rattle.handle_bin.specs.Bins.{HandleValue}
 use Rattle.pool_table.specs.declared.views.SeatView.{SeatView}
 use Rattle.shared_pool.specs.declared.seat.PoolSeat.{PoolSeat}

@@ -8,7 +8,7 @@ use Rattle.pool_law.specs.declared.id.Region.{Region}
 use Rattle.pool_law.specs.Limits.{geometry_of}
 use Rattle.pool_law.specs.Places.{IsInPlace}
 use Rattle.pool_law.specs.Same.{same_root}
-use Rattle.table_law.specs.NoteCounts.{is_taking, uses_in}
+use Rattle.history_laws.specs.NoteCounts.{is_taking, uses_in}
 use Rattle.handle_bin.specs.Bins.{HandleValue}
 use Rattle.shared_pool.specs.declared.seat.PoolSeat.{PoolSeat}
 use Rattle.pool_table.specs.declared.views.SeatView.{SeatView}

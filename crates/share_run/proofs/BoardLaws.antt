@@ -7,7 +7,7 @@ use Rattle.std.proofs.lemmas.Option.{slice_get-get_or}
 use Rattle.pool_law.specs.declared.id.Part.{Part}
 use Rattle.pool_law.specs.declared.id.RootId.{RootId}
 use Rattle.pool_law.specs.Composites.{size_of}
-use Rattle.table_law.specs.NoteCounts.{did_post_of}
+use Rattle.history_laws.specs.NoteCounts.{did_post_of}
 use Rattle.pool_table.specs.declared.views.Entry.{Entry}
 use Rattle.pool_table.specs.declared.views.Entry.TheVariants.{At, Ref, Busy}
 use Rattle.pool_table.specs.Counts.{posts}

@@ -14,7 +14,7 @@ use Rattle.pool_law.specs.declared.note.Object.{Object}
 use Rattle.pool_law.specs.declared.note.Object.TheVariants.{Root}
 use Rattle.pool_law.specs.Composites.{size_of}
 use Rattle.pool_law.specs.Naming.{noted_by}
-use Rattle.table_law.specs.NoteCounts.{did_post_of}
+use Rattle.history_laws.specs.NoteCounts.{did_post_of}
 use Rattle.pool_table.specs.declared.views.Entry.{Entry}
 use Rattle.pool_table.specs.declared.views.Entry.TheVariants.{At, Ref, Busy}
 use Rattle.pool_table.specs.Counts.{posts}

@@ -1,7 +1,6 @@
 //! What a text asks for: composites, and readers of them.
 
-use pool_law::Bytes;
-use pool_law::list::Items;
+use pool_law::{Bytes, Items};
 
 /// The most composites. There is at least one.
 pub const COMPOSITE_LIMIT: usize = 16;

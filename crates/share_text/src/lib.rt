@@ -9,8 +9,6 @@ mod inputs;
 mod lines;
 mod reading;
 mod seeing;
-#[cfg(test)]
-mod tests;
 
 pub use inputs::{
     BYTE_LIMIT, COMPOSITE_LIMIT, Composites, Input, InputNo, PART_LIMIT, Parts, READ_LIMIT,

@@ -2,8 +2,7 @@
 ghost use Rattle.std.specs.Prelude.{◌≡◌, ◌++◌, IfOk, OnOk};
 ghost use Rattle.share_text.specs.Lines.{all_lines, composite_line, composite_lines, end_lines, last_line, read_line, reader_lines, text_with};
 
-use pool_law::Bytes;
-use pool_law::list::Items;
+use pool_law::{Bytes, Items};
 use run_report::Writer;
 use std::alloc::{AllocError, Global};
 

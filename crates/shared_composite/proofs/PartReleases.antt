@@ -7,7 +7,7 @@ use Rattle.pool_law.specs.declared.note.RefDid.TheVariants.{Kept, Ended}
 use Rattle.pool_law.specs.declared.run.Reply.{Reply}
 use Rattle.pool_law.specs.declared.run.Shape.{Shape}
 use Rattle.pool_law.specs.Dids as says
-use Rattle.pool_law.specs.Logs.{Entry}
+use Rattle.pool_law.specs.Logs.{ToldNote}
 use Rattle.pool_law.specs.Patterns.{end_of, release}
 use Rattle.pool_law.specs.Readers.{Log, Reader, ◌>>◌, give, step}
 use Rattle.pool_table.specs.declared.views.Entry.TheVariants.{Ref}
@@ -30,7 +30,7 @@ module _ (shape : Shape) (root : RootId) where
 
   reads_kept : ReadsOn (release shape root) (entry_of (Ref root Kept) ∷ []) none_asked (give Reply.Kept)
   reads_kept =
-      let e : Entry = entry_of (Ref root Kept) in
+      let e : ToldNote = entry_of (Ref root Kept) in
       first_on keeps (end_of shape root >> give Reply.Freed) (e ∷ []) none_asked Reply.Kept
       (given_on (step root says.count_kept) (e ∷ []) none_asked (λ _. give Reply.Kept) tt
       (step_on e root says.count_kept Kept refl tt refl))
@@ -38,7 +38,7 @@ module _ (shape : Shape) (root : RootId) where
   reads_ended : ReadsOn (release shape root) (entry_of (Ref root Ended) ∷ []) none_asked
       (retired shape root >> give Reply.Freed)
   reads_ended =
-      let e : Entry = entry_of (Ref root Ended) in
+      let e : ToldNote = entry_of (Ref root Ended) in
       second_on keeps (end_of shape root >> give Reply.Freed) (e ∷ []) none_asked
       (retired shape root >> give Reply.Freed)
       (λ log. none_then (step root says.count_kept) (λ _. give Reply.Kept) (before_left log (e ∷ []))

@@ -5,7 +5,7 @@ use Rattle.std.specs.List.{list_all}
 use Rattle.pool_law.specs.declared.id.RegionId.{RegionId}
 use Rattle.pool_law.specs.declared.id.RootId.{RootId}
 use Rattle.pool_law.specs.Limits.{cached_classes}
-use Rattle.table_law.specs.NoteCounts.{is_taking}
+use Rattle.history_laws.specs.NoteCounts.{is_taking}
 use Rattle.pool_table.specs.declared.views.Entry.{Entry}
 use Rattle.pool_table.specs.declared.views.SeatView.{SeatView}
 use Rattle.pool_table.specs.Counts.{HasToken}

@@ -12,20 +12,20 @@ use Rattle.pool_law.specs.Arenas.{Arena as ArenaLaw, new_arena, is_out_of}
 use Rattle.pool_law.specs.Histories.{after}
 use Rattle.pool_law.specs.NotedHistories.{noted_dids, IsRightAt, IsRightWatch}
 use Rattle.pool_law.specs.Naming.{noted_by}
-use Rattle.table_law.specs.Histories.{IsHistory, IsArenaAfter}
-use Rattle.table_law.specs.Measures.{measures_of}
-use Rattle.table_law.proofs.Names.{same_taking-refl}
-use Rattle.table_law.proofs.Runs.{right_push}
+use Rattle.history_laws.specs.Histories.{IsHistory, IsArenaAfter}
+use Rattle.history_laws.specs.Measures.{measures_of}
+use Rattle.history_laws.proofs.Names.{same_taking-refl}
+use Rattle.history_laws.proofs.Runs.{right_push}
 use Rattle.ground.specs.Ground.{Segment}
 use Rattle.size_classes.specs.Sizes.{IsPage, of_pages}
 use Rattle.pool_law.specs.Places.{IsInPlace}
 use Rattle.std.proofs.lemmas.List.{length-map}
-use Rattle.arena_law.specs.Slots.{ArenaHolds}
-use Rattle.arena_law.specs.Takings.{TakenInOrder}
-use Rattle.arena_law.proofs.ArenaLaw.{new-holds, after-holds}
-use Rattle.arena_law.proofs.OrderlyLaw.{out-slot}
-use Rattle.arena_law.proofs.TakingLaw.{after-numbers}
-use Rattle.table_law.specs.NoteCounts.{one_if_so}
+use Rattle.arena_laws.specs.Slots.{ArenaHolds}
+use Rattle.arena_laws.specs.Takings.{TakenInOrder}
+use Rattle.arena_laws.proofs.ArenaLaw.{new-holds, after-holds}
+use Rattle.arena_laws.proofs.OrderlyLaw.{out-slot}
+use Rattle.arena_laws.proofs.TakingLaw.{after-numbers}
+use Rattle.history_laws.specs.NoteCounts.{one_if_so}
 use Rattle.pool_table.specs.Hands.{HasTaking, IsLaidDown}
 use Rattle.pool_table.specs.Learned.{did_take_up}
 use Rattle.pool_arena.specs.ArenaStates.{ArenaState, law_of, IsOutOf, IsInPlaceAt, IsSameArena, Gives}

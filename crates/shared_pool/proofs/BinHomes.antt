@@ -9,9 +9,9 @@ use Rattle.pool_law.specs.declared.note.Object.TheVariants.{Bin as BinOf}
 use Rattle.pool_law.specs.Caches.{new_bin, bin_step}
 use Rattle.pool_law.specs.Histories.{after}
 use Rattle.pool_law.specs.NotedHistories.{noted_dids, IsRightAt, IsRightWatch}
-use Rattle.table_law.specs.Histories.{IsHistory, IsBinAfter}
-use Rattle.table_law.specs.Measures.{measures_of}
-use Rattle.table_law.proofs.Runs.{right_push}
+use Rattle.history_laws.specs.Histories.{IsHistory, IsBinAfter}
+use Rattle.history_laws.specs.Measures.{measures_of}
+use Rattle.history_laws.proofs.Runs.{right_push}
 use Rattle.handle_bin.specs.Bins.{BinValue, Makes, places_in}
 use Rattle.handle_bin.proofs.StandingLaws.{stands_more}
 use Rattle.shared_pool.specs.declared.home.Home.{Home}

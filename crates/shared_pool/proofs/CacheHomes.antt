@@ -14,10 +14,10 @@ use Rattle.pool_law.specs.Histories.{cache_after}
 use Rattle.pool_law.specs.NotedHistories.{noted_dids, IsRightAt, IsRightWatch}
 use Rattle.pool_law.specs.Naming.{noted_by}
 use Rattle.pool_law.proofs.HistoryLemmas.{after-noted}
-use Rattle.table_law.specs.Histories.{IsHistory, IsCacheAfter}
-use Rattle.table_law.specs.Measures.{measures_of}
-use Rattle.table_law.proofs.Runs.{right_push}
-use Rattle.table_law.proofs.Told.{cache_there}
+use Rattle.history_laws.specs.Histories.{IsHistory, IsCacheAfter}
+use Rattle.history_laws.specs.Measures.{measures_of}
+use Rattle.history_laws.proofs.Runs.{right_push}
+use Rattle.history_laws.proofs.Told.{cache_there}
 use Rattle.region_cache.specs.Queues.{Queue, cache_of, Makes}
 use Rattle.region_cache.specs.Standing.{IsRegionOf, cache_told}
 use Rattle.region_cache.proofs.StandingLaws.{stands_more, stands_as_told, of_class}

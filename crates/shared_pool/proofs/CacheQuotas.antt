@@ -16,9 +16,9 @@ use Rattle.pool_law.specs.Limits.{cache_capacity}
 use Rattle.pool_law.specs.NotedHistories.{noted_dids, MayNote}
 use Rattle.pool_law.specs.Same.{same_object, same_region}
 use Rattle.pool_law.proofs.SameLemmas.{same_object-is}
-use Rattle.table_law.specs.Histories.{IsCacheAfter}
+use Rattle.history_laws.specs.Histories.{IsCacheAfter}
 use Rattle.pool_table.proofs.Known.{one_known}
-use Rattle.table_law.proofs.BinSteps.{so}
+use Rattle.history_laws.proofs.BinSteps.{so}
 use Rattle.pool_table.specs.declared.views.Entry.{Entry}
 use Rattle.pool_table.specs.declared.views.Entry.TheVariants.{At, Ref, Busy}
 use Rattle.pool_table.specs.declared.views.Layout.{Layout}

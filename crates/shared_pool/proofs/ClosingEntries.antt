@@ -12,8 +12,8 @@ use Rattle.pool_law.specs.declared.note.Object.TheVariants.{Arena, Cache, Bin, M
 use Rattle.pool_law.specs.Homes.{home_of, IsObjectOf}
 use Rattle.pool_law.specs.Histories.{place_after}
 use Rattle.pool_law.specs.NotedHistories.{noted_dids, IsRightAt}
-use Rattle.pool_law.specs.Logs.{Entry as LawEntry, dids, has_history, history_of, entry_of as law_entry_of, entries_of, present_in, root_for, region_for}
-use Rattle.table_law.specs.Histories.{AreRight}
+use Rattle.pool_law.specs.Logs.{ToldNote, dids, has_history, history_of, entry_of as law_entry_of, entries_of, present_in, root_for, region_for}
+use Rattle.history_laws.specs.Histories.{AreRight}
 use Rattle.pool_table.specs.declared.views.Entry.{Entry}
 use Rattle.pool_table.specs.declared.views.Entry.TheVariants.{At, Ref, Busy}
 use Rattle.pool_table.specs.declared.views.Layout.{Layout}
@@ -63,7 +63,7 @@ dids_take zero h = refl
 dids_take (suc k) [] = refl
 dids_take (suc k) (n ∷ h) = ap (λ (ds : List Did). n.did ∷ ds) (dids_take k h)
 
-mapped : (g : Note → LawEntry) (ps : List Part) → All
+mapped : (g : Note → ToldNote) (ps : List Part) → All
     (λ (p : Part). All (λ (e : Entry). g (note_of e) ≡ entry_of e) p.notes) ps
     → map (map g) (logs_in ps) ≡ entries_in ps
 mapped g [] all = refl

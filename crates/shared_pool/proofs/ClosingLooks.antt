@@ -8,7 +8,7 @@ use Rattle.pool_law.specs.declared.id.RootId.{RootId}
 use Rattle.pool_law.specs.declared.note.RefDid.TheVariants.{Look}
 use Rattle.pool_law.specs.declared.note.Note.{Note}
 use Rattle.pool_law.specs.declared.note.Noted.{Noted}
-use Rattle.pool_law.specs.Logs.{Entry as LawEntry, of_lane}
+use Rattle.pool_law.specs.Logs.{ToldNote, of_lane}
 use Rattle.pool_law.specs.Counts.{note_gains, note_loses, is_retain, is_release, count_in}
 use Rattle.pool_law.specs.Legal.{others_retains}
 use Rattle.pool_table.specs.declared.views.Entry.{Entry}
@@ -53,8 +53,8 @@ look_is r k (Busy b) is = absurd (cc is)
 right_in : (r : RootId) (others : ℕ) (own : List Entry) → AllBound r others own → LooksRight r others (map entry_of own)
 right_in r others own all before after e found is note =
     let c = cut_map entry_of own before after e is in
-    let look = look_is r found c.1 (sym (note_is c.1) ∙ (ap (λ (x : LawEntry). x.note) c.5 ∙ note)) in
-    subst (λ (es : List LawEntry). LookRight r others es found) c.4
+    let look = look_is r found c.1 (sym (note_is c.1) ∙ (ap (λ (x : ToldNote). x.note) c.5 ∙ note)) in
+    subst (λ (es : List ToldNote). LookRight r others es found) c.4
     (all c.0 c.2 found (subst (λ (x : Entry). own ≡ c.0 ++ x ∷ c.2) look c.3))
 
 -- ---- The retains of others.

@@ -16,7 +16,7 @@ use Rattle.pool_law.specs.Kinds.{passing}
 use Rattle.pool_law.specs.NotedHistories.{MayNote}
 use Rattle.pool_law.specs.Logs.{has_history}
 use Rattle.pool_law.specs.Counts.{is_born, is_retain, is_release, ends_root}
-use Rattle.table_law.specs.NoteCounts.{is_root}
+use Rattle.history_laws.specs.NoteCounts.{is_root}
 use Rattle.run_order.specs.Order.{Step, Fits, FitsCount, Leave, InOneOrder, is_at, is_alike, is_born_at, is_vacated_at, is_vacated, made as made_of}
 use Rattle.pool_table.specs.declared.views.Entry.{Entry}
 use Rattle.pool_table.specs.declared.views.Entry.TheVariants.{At, Ref, Busy}

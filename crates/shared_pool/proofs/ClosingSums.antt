@@ -14,8 +14,8 @@ use Rattle.pool_law.specs.declared.note.RefDid.TheVariants.{Born, Retain, Kept, 
 use Rattle.pool_law.specs.declared.note.Note.{Note}
 use Rattle.pool_law.specs.Same.{same_root}
 use Rattle.pool_law.specs.Counts.{view_is_of, note_gains, note_loses, count_in, count_over, is_retain, is_release, is_born, is_birth, ends_root, ref_gains, ref_loses}
-use Rattle.table_law.specs.NoteCounts.{is_root, view_weight, did_fetch, did_post, did_birth_as}
-use Rattle.table_law.proofs.Names.{same_root-is, same_root-refl, and-first, and-second}
+use Rattle.history_laws.specs.NoteCounts.{is_root, view_weight, did_fetch, did_post, did_birth_as}
+use Rattle.history_laws.proofs.Names.{same_root-is, same_root-refl, and-first, and-second}
 use Rattle.pool_table.specs.declared.views.Entry.{Entry}
 use Rattle.pool_table.specs.declared.views.Entry.TheVariants.{At, Ref, Busy}
 use Rattle.pool_table.specs.declared.views.Part.{Part}

@@ -15,7 +15,7 @@ use Rattle.pool_law.specs.declared.note.Object.TheVariants.{Root}
 use Rattle.pool_law.specs.declared.run.Shape.{Shape}
 use Rattle.pool_law.specs.Homes.{objects_of}
 use Rattle.pool_law.specs.Counts.{TotalHolds, count_over, is_retain, is_release, is_born, is_birth, ends_root}
-use Rattle.table_law.specs.NoteCounts.{is_root, did_birth, did_birth_of, did_birth_as, did_end}
+use Rattle.history_laws.specs.NoteCounts.{is_root, did_birth, did_birth_of, did_birth_as, did_end}
 use Rattle.pool_table.specs.declared.views.Entry.{Entry}
 use Rattle.pool_table.specs.declared.views.Entry.TheVariants.{At, Ref, Busy}
 use Rattle.pool_table.specs.declared.views.Layout.{Layout}

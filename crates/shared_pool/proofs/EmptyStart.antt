@@ -15,7 +15,7 @@ use Rattle.pool_law.specs.Arenas.{Arena as ArenaLaw}
 use Rattle.pool_law.specs.Caches.{Cache as CacheState, new_cache}
 use Rattle.pool_law.specs.Places.{IsInPlace}
 use Rattle.pool_law.specs.Roots.{RootPlace, new_place}
-use Rattle.table_law.specs.NoteCounts.{weight_or}
+use Rattle.history_laws.specs.NoteCounts.{weight_or}
 use Rattle.pool_table.specs.Holders.{sum_to}
 use Rattle.region_cache.specs.Queues.{cache_of}
 use Rattle.region_cache.specs.Standing.{IsRegionOf}

@@ -20,9 +20,9 @@ use Rattle.pool_law.specs.Logs.{dids, history_of}
 use Rattle.pool_law.specs.NotedHistories.{noted_dids}
 use Rattle.pool_law.specs.Places.{IsInPlace}
 use Rattle.pool_law.specs.Roots.{RootPlace}
-use Rattle.table_law.specs.Histories.{IsArenaAfter, IsCacheAfter, IsPlaceAfter}
-use Rattle.table_law.specs.Measures.{measures_of}
-use Rattle.table_law.specs.NoteCounts.{is_taking, weight_or}
+use Rattle.history_laws.specs.Histories.{IsArenaAfter, IsCacheAfter, IsPlaceAfter}
+use Rattle.history_laws.specs.Measures.{measures_of}
+use Rattle.history_laws.specs.NoteCounts.{is_taking, weight_or}
 use Rattle.pool_table.specs.declared.views.Layout.{Layout}
 use Rattle.pool_table.specs.declared.views.SeatView.{SeatView}
 use Rattle.pool_table.specs.Closed.{IsClosed}
@@ -30,10 +30,10 @@ use Rattle.pool_table.specs.Hands.{grasped, laid, HasTaking}
 use Rattle.pool_table.specs.Holders.{sum_to, region_at, in_caches, at_places}
 use Rattle.pool_table.specs.Views.{parts_of}
 use Rattle.pool_table.proofs.Partition.{sum_to_eq, sum_to_none}
-use Rattle.arena_law.specs.Slots.{ArenaHolds}
-use Rattle.arena_law.proofs.ArenaLaw.{new-holds, after-holds}
-use Rattle.arena_law.proofs.CoveredSteps.{new-covered}
-use Rattle.arena_law.proofs.CoveredLaw.{after-covered}
+use Rattle.arena_laws.specs.Slots.{ArenaHolds}
+use Rattle.arena_laws.proofs.ArenaLaw.{new-holds, after-holds}
+use Rattle.arena_laws.proofs.CoveredSteps.{new-covered}
+use Rattle.arena_laws.proofs.CoveredLaw.{after-covered}
 use Rattle.pool_arena.specs.ArenaStates.{ArenaState, law_of}
 use Rattle.region_cache.specs.Queues.{Queue, cache_of}
 use Rattle.shared_pool.specs.Closing.{AreLanes, logs_in}

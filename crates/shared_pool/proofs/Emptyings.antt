@@ -14,15 +14,15 @@ use Rattle.pool_law.specs.declared.id.RegionId.{RegionId}
 use Rattle.pool_law.specs.Arenas.{Arena as ArenaLaw, is_out_of}
 use Rattle.pool_law.specs.Places.{IsInPlace}
 use Rattle.pool_law.specs.Same.{same_taking}
-use Rattle.table_law.specs.NoteCounts.{one_if_so, is_taking}
-use Rattle.table_law.proofs.Names.{same_taking-is, same_taking-both, same_taking-key, same_taking-refl}
-use Rattle.arena_law.specs.Slots.{ArenaHolds, IsLocated, EachOf}
-use Rattle.arena_law.specs.Covered.{IsCovered}
-use Rattle.arena_law.proofs.ArenaLaw.{give-holds}
-use Rattle.arena_law.proofs.CoveredGives.{give-covered}
-use Rattle.arena_law.proofs.CoveredLaw.{covered-rests}
-use Rattle.arena_law.proofs.ElementGives.{EachOf-one}
-use Rattle.arena_law.proofs.OrderlyLaw.{out-slot}
+use Rattle.history_laws.specs.NoteCounts.{one_if_so, is_taking}
+use Rattle.history_laws.proofs.Names.{same_taking-is, same_taking-both, same_taking-key, same_taking-refl}
+use Rattle.arena_laws.specs.Slots.{ArenaHolds, IsLocated, EachOf}
+use Rattle.arena_laws.specs.Covered.{IsCovered}
+use Rattle.arena_laws.proofs.ArenaLaw.{give-holds}
+use Rattle.arena_laws.proofs.CoveredGives.{give-covered}
+use Rattle.arena_laws.proofs.CoveredLaw.{covered-rests}
+use Rattle.arena_laws.proofs.ElementGives.{EachOf-one}
+use Rattle.arena_laws.proofs.OrderlyLaw.{out-slot}
 use Rattle.pool_arena.specs.ArenaStates.{ArenaState, law_of, IsOutOf, Gives, AtRest, without_taking}
 use Rattle.shared_pool.specs.declared.home.Home.{Home}
 use Rattle.shared_pool.specs.declared.home.Home.TheVariants.{Arena, Cache, Bin, Root}

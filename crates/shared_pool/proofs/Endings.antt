@@ -9,14 +9,14 @@ use Rattle.pool_law.specs.declared.note.Noted.{Noted}
 use Rattle.pool_law.specs.NotedHistories.{IsRightWatch}
 use Rattle.pool_law.specs.declared.note.Object.{Object}
 use Rattle.pool_law.specs.Naming.{noted_by}
-use Rattle.table_law.specs.Histories.{IsHistory}
-use Rattle.table_law.specs.Measures.{measures_of}
+use Rattle.history_laws.specs.Histories.{IsHistory}
+use Rattle.history_laws.specs.Measures.{measures_of}
 use Rattle.pool_table.specs.declared.views.Entry.TheVariants.{At}
 use Rattle.pool_table.specs.declared.views.Layout.{Layout}
 use Rattle.pool_table.specs.declared.views.SeatView.{SeatView}
 use Rattle.pool_table.specs.declared.table.PoolSeat.{PoolSeat as TableSeat}
 use Rattle.pool_table.specs.declared.table.Section.{Section}
-use Rattle.pool_table.specs.declared.table.Slot.{Slot}
+use Rattle.pool_table.specs.declared.table.HomeSlot.{HomeSlot}
 use Rattle.pool_table.specs.Numbers.{IsAbove}
 use Rattle.pool_table.specs.Views.{with_entry}
 use Rattle.pool_table.specs.Seats.{view_of, HasView}
@@ -53,7 +53,7 @@ module _ {G : Ghosts Home Noted} (l : Layout) (o : Object) (old new : TableSeat 
         record {
           history = got.history;
           inside =
-              subst (λ (x : Object × Slot). IsInside l.shape new.seat.me x.0 x.1 got.history)
+              subst (λ (x : Object × HomeSlot). IsInside l.shape new.seat.me x.0 x.1 got.history)
               (λ i. (sym object_is i, sym next.same_slot i)) got.inside;
           follows =
               subst (λ (x : Object × Option ℕ). IsHistory l.shape x.0 (got.history ++ noted_by x.1 n ∷ []))

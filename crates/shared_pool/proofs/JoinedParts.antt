@@ -18,7 +18,7 @@ use Rattle.pool_table.specs.declared.views.SeatView.{SeatView}
 use Rattle.pool_table.specs.Closed.{HasAllLanes}
 use Rattle.pool_table.specs.Counts.{weigh, weigh_in, on_place, on_this, ref_born, ref_ended, ref_vacated}
 use Rattle.pool_law.specs.declared.id.RegionId.{RegionId}
-use Rattle.table_law.specs.NoteCounts.{is_taking}
+use Rattle.history_laws.specs.NoteCounts.{is_taking}
 use Rattle.pool_table.specs.Hands.{HasTaking, at_in, at_out, taken, put_down, from_arena, to_arena, from_cache, to_cache, from_place, to_place, grasped, laid}
 use Rattle.shared_pool.specs.SeatViews.{view_of}
 use Rattle.pool_table.specs.Views.{joined, parts_of}

@@ -15,7 +15,7 @@ use Rattle.pool_law.specs.Kinds.{Stays, passing}
 use Rattle.pool_law.specs.Naming.{noted_by}
 use Rattle.pool_law.specs.Places.{IsInPlace}
 use Rattle.pool_law.specs.Same.{same_object}
-use Rattle.table_law.specs.NoteCounts.{did_home, did_birth, did_post_of, arena_out, arena_in, cache_out, cache_in, place_out, place_in, is_taking, uses_in}
+use Rattle.history_laws.specs.NoteCounts.{did_home, did_birth, did_post_of, arena_out, arena_in, cache_out, cache_in, place_out, place_in, is_taking, uses_in}
 use Rattle.handle_bin.specs.Bins.{HandleValue}
 use Rattle.pool_table.specs.declared.views.Entry.{Entry}
 use Rattle.pool_table.specs.declared.views.Entry.TheVariants.{At, Ref, Busy}

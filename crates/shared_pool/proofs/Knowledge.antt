@@ -9,7 +9,7 @@ use Rattle.pool_law.specs.declared.note.Did.{Did}
 use Rattle.pool_law.specs.declared.note.Object.{Object}
 use Rattle.pool_law.specs.declared.note.Object.TheVariants.{Mail}
 use Rattle.pool_law.specs.Capacities.{told_by, known_of}
-use Rattle.pool_law.specs.Logs.{Entry as LawEntry}
+use Rattle.pool_law.specs.Logs.{ToldNote}
 use Rattle.pool_law.specs.Naming.{noted_by}
 use Rattle.pool_table.specs.declared.views.Entry.{Entry}
 use Rattle.pool_table.specs.declared.views.Entry.TheVariants.{At}
@@ -31,7 +31,7 @@ regroup a k t = omega arith
 turn : (t : ℕ) → max t 0 ≡ max 0 t
 turn t = omega arith
 
-known-push : (r : RootId) (es : List LawEntry) (e : LawEntry)
+known-push : (r : RootId) (es : List ToldNote) (e : ToldNote)
     → known_of r (es ++ e ∷ []) ≡ max (known_of r es) (told_by r e.root e.note)
 known-push r [] e = turn (told_by r e.root e.note)
 known-push r (x ∷ es) e =
@@ -42,7 +42,7 @@ known-push r (x ∷ es) e =
 pub knows-more : (r : RootId) (v : SeatView) (e : Entry) (turns : ℕ)
     → knows_of r (with_entry v e turns) ≡ max (knows_of r v) (told_by r (law_entry e).root (law_entry e).note)
 knows-more r v e turns =
-    ap (λ (es : List LawEntry). max r.capacity (known_of r es)) (map-append law_entry v.own.notes (e ∷ []))
+    ap (λ (es : List ToldNote). max r.capacity (known_of r es)) (map-append law_entry v.own.notes (e ∷ []))
     ∙ ap (max r.capacity) (known-push r (lane_entries v) (law_entry e))
     ∙ regroup r.capacity (known_of r (lane_entries v)) (told_by r (law_entry e).root (law_entry e).note)
 

@@ -17,7 +17,7 @@ use Rattle.pool_law.specs.Homes.{home_of, IsObjectOf}
 use Rattle.pool_law.specs.Legal.{ends_of, arena_ends, ends_from}
 use Rattle.pool_law.specs.Limits.{geometry_of}
 use Rattle.pool_law.specs.Logs.{Logs}
-use Rattle.table_law.specs.Measures.{measures_of}
+use Rattle.history_laws.specs.Measures.{measures_of}
 use Rattle.pool_table.specs.declared.views.Layout.{Layout}
 use Rattle.pool_table.specs.declared.views.SeatView.{SeatView}
 use Rattle.pool_table.specs.Closed.{IsClosed}

@@ -18,7 +18,7 @@ use Rattle.pool_law.specs.Leaks.{accesses, accesses_to, kept_of, dropped_of, cap
 use Rattle.pool_law.specs.Logs.{dids, history_of, present_in, entries_of}
 use Rattle.pool_law.specs.NotedHistories.{noted_dids}
 use Rattle.pool_law.specs.Roots.{Present, RootPlace, new_place}
-use Rattle.table_law.specs.Measures.{measures_of}
+use Rattle.history_laws.specs.Measures.{measures_of}
 use Rattle.pool_table.specs.declared.views.Entry.{Entry}
 use Rattle.pool_table.specs.declared.views.Entry.TheVariants.{At}
 use Rattle.pool_table.specs.declared.views.Layout.{Layout}

@@ -9,10 +9,10 @@ use Rattle.pool_law.specs.declared.note.RefDid.TheVariants.{Born, Retain, Kept, 
 use Rattle.pool_law.specs.declared.note.Note.{Note}
 use Rattle.pool_law.specs.declared.note.Note.TheVariants.{At, Ref, Busy}
 use Rattle.pool_law.specs.Same.{same_root}
-use Rattle.pool_law.specs.Logs.{Entry}
+use Rattle.pool_law.specs.Logs.{ToldNote}
 use Rattle.pool_law.specs.Counts.{view_is_of, root_is, note_gains, note_loses, note_needs, ref_gains, ref_loses, ref_needs, count_step, CountsHold, is_retain, is_release, count_in}
 use Rattle.pool_law.specs.Legal.{LooksHold, LookAt, one_if}
-use Rattle.table_law.proofs.Names.{same_root-is}
+use Rattle.history_laws.proofs.Names.{same_root-is}
 use Rattle.shared_pool.specs.Looks.{LookRight, LooksRight}
 
 -- a note adds what it gains and takes what it loses, where the lane counts the root
@@ -50,19 +50,19 @@ module _ (r : RootId) (k : ℕ) where
   step_by (Ref q d) of needs = ref_by (same_root q r) (root_is r of) d needs
   step_by (Busy b) of needs = refl
 
-count_push : (test : Note → Bool) (es : List Entry) (e : Entry)
+count_push : (test : Note → Bool) (es : List ToldNote) (e : ToldNote)
     → count_in test (es ++ e ∷ []) ≡ count_in test es + one_if (test e.note)
 count_push test [] e = omega arith
 count_push test (x ∷ es) e = let a = count_push test es e in omega (arith, a)
 
 -- what a lane knows after these entries
-record Reached (r : RootId) (before : List Entry) (retains releases count : ℕ) : Type 0 where
+record Reached (r : RootId) (before : List ToldNote) (retains releases count : ℕ) : Type 0 where
   pub retained : retains ≡ count_in (is_retain r) before
   pub released : releases ≡ count_in (is_release r) before
   pub counted : count + count_in (note_loses r) before ≡ count_in (note_gains r) before
 
 module _ (r : RootId) (others : ℕ) where
-  look_at : (before : List Entry) (retains releases count : ℕ) (n : Note) → Reached r before retains releases count →
+  look_at : (before : List ToldNote) (retains releases count : ℕ) (n : Note) → Reached r before retains releases count →
       ((found : ℕ) → n ≡ Ref r (Look found) → LookRight r others before found)
       → LookAt r retains releases count others n
   look_at before retains releases count (At o k d) reached right = tt
@@ -78,7 +78,7 @@ module _ (r : RootId) (others : ℕ) where
       b.most in
       record { least = omega (arith, z, s); most = omega (arith, x, y, t) }
 
-  looks_from : (before rest : List Entry) (retains releases count : ℕ) → Reached r before retains releases count →
+  looks_from : (before rest : List ToldNote) (retains releases count : ℕ) → Reached r before retains releases count →
       CountsHold r count rest → LooksRight r others (before ++ rest) → LooksHold r others retains releases count rest
   looks_from before [] retains releases count reached holds right = tt
   looks_from before (e ∷ rest) retains releases count reached holds right = (
@@ -95,6 +95,6 @@ module _ (r : RootId) (others : ℕ) where
         holds.1.1 (subst (LooksRight r others) (sym (append_assoc before (e ∷ []) rest)) right),
   )
 
-  pub looks-held : (es : List Entry) → CountsHold r 0 es → LooksRight r others es → LooksHold r others 0 0 0 es
+  pub looks-held : (es : List ToldNote) → CountsHold r 0 es → LooksRight r others es → LooksHold r others 0 0 0 es
   looks-held es holds right =
       looks_from [] es 0 0 0 (record { retained = refl; released = refl; counted = refl }) holds right

@@ -11,7 +11,7 @@ use Rattle.pool_law.specs.declared.run.Shape.{Shape}
 use Rattle.pool_law.specs.Arenas.{Arena as ArenaLaw, new_arena}
 use Rattle.pool_law.specs.Homes.{objects_of}
 use Rattle.pool_law.specs.Limits.{cache_capacity}
-use Rattle.table_law.specs.Measures.{measures_of}
+use Rattle.history_laws.specs.Measures.{measures_of}
 use Rattle.pool_arena.specs.ArenaStates.{ArenaState, IsNew}
 use Rattle.region_cache.proofs.StandingLaws.{stands_new as cache_new}
 use Rattle.handle_bin.proofs.StandingLaws.{stands_new as bin_new}

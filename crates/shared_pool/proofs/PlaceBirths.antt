@@ -25,9 +25,9 @@ use Rattle.pool_law.specs.Naming.{noted_by}
 use Rattle.pool_law.specs.NotedHistories.{noted_dids}
 use Rattle.pool_law.specs.Places.{IsInPlace}
 use Rattle.pool_law.proofs.HistoryLemmas.{after-noted}
-use Rattle.table_law.specs.Histories.{root_after}
-use Rattle.table_law.specs.Measures.{measures_of}
-use Rattle.table_law.specs.NoteCounts.{is_taking, uses_in}
+use Rattle.history_laws.specs.Histories.{root_after}
+use Rattle.history_laws.specs.Measures.{measures_of}
+use Rattle.history_laws.specs.NoteCounts.{is_taking, uses_in}
 use Rattle.leak_records.specs.Records.{HasRecords, new_tracker}
 use Rattle.leak_records.proofs.RecordLaws.{records_new}
 use Rattle.handle_bin.specs.Bins.{HandleValue}

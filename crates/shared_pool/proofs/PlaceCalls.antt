@@ -15,8 +15,8 @@ use Rattle.pool_law.specs.Limits.{geometry_of}
 use Rattle.pool_law.specs.Naming.{noted_by}
 use Rattle.pool_law.specs.Places.{IsInPlace}
 use Rattle.pool_law.specs.Roots.{RootPlace}
-use Rattle.table_law.specs.Histories.{IsHistory, IsPlaceAfter}
-use Rattle.table_law.specs.Measures.{measures_of}
+use Rattle.history_laws.specs.Histories.{IsHistory, IsPlaceAfter}
+use Rattle.history_laws.specs.Measures.{measures_of}
 use Rattle.handle_bin.specs.Bins.{HandleValue}
 use Rattle.pool_table.specs.declared.views.Entry.TheVariants.{At}
 use Rattle.pool_table.specs.declared.views.Layout.{Layout}

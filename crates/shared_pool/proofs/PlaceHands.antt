@@ -14,9 +14,9 @@ use Rattle.pool_law.specs.declared.note.Object.TheVariants.{Bin as BinOf}
 use Rattle.pool_law.specs.Caches.{new_bin, bin_step, has_place, front_taken}
 use Rattle.pool_law.proofs.HistoryLemmas.{after-noted}
 use Rattle.pool_law.proofs.SameLemmas.{and-first, and-second}
-use Rattle.table_law.specs.Histories.{IsHistory, IsBinAfter}
-use Rattle.table_law.specs.NoteCounts.{did_handle, did_home, did_birth}
-use Rattle.table_law.proofs.Told.{bin_there}
+use Rattle.history_laws.specs.Histories.{IsHistory, IsBinAfter}
+use Rattle.history_laws.specs.NoteCounts.{did_handle, did_home, did_birth}
+use Rattle.history_laws.proofs.Told.{bin_there}
 use Rattle.handle_bin.specs.Bins.{HandleValue, IsHomeless, is_of, places_in}
 use Rattle.pool_table.specs.declared.views.Entry.TheVariants.{At}
 use Rattle.pool_table.specs.declared.views.Layout.{Layout}

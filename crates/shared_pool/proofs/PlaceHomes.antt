@@ -18,9 +18,9 @@ use Rattle.pool_law.specs.Logs.{present_in, root_for, region_for}
 use Rattle.pool_law.specs.Naming.{noted_by}
 use Rattle.pool_law.specs.NotedHistories.{noted_dids, IsRightAt, IsRightWatch}
 use Rattle.pool_law.proofs.HistoryLemmas.{after-noted}
-use Rattle.table_law.specs.Histories.{IsHistory, root_after}
-use Rattle.table_law.specs.Measures.{measures_of}
-use Rattle.table_law.proofs.Runs.{right_push}
+use Rattle.history_laws.specs.Histories.{IsHistory, root_after}
+use Rattle.history_laws.specs.Measures.{measures_of}
+use Rattle.history_laws.proofs.Runs.{right_push}
 use Rattle.leak_records.specs.Records.{Tracked, HasRecords, with_access, with_last, is_keeping}
 use Rattle.leak_records.proofs.RecordLaws.{records_more, dropped-most}
 use Rattle.size_classes.specs.Sizes.{of_pages, class_count}

@@ -10,8 +10,8 @@ use Rattle.pool_law.specs.declared.report.Watch.{Watch}
 use Rattle.pool_law.specs.Same.{same_root, same_bytes}
 use Rattle.pool_law.specs.Roots.{RootPlace, Present, laid_over, bytes_at, zeros_to, born, may_be_born, with_bytes, place_step, place_step_by}
 use Rattle.pool_law.proofs.SameLemmas.{and-first, and-second}
-use Rattle.table_law.proofs.Names.{same_root-is}
-use Rattle.table_law.proofs.BinSteps.{so}
+use Rattle.history_laws.proofs.Names.{same_root-is}
+use Rattle.history_laws.proofs.BinSteps.{so}
 use Rattle.shared_pool.specs.RootPlaces.{watch_after}
 
 -- what was done leaves the watch

@@ -16,7 +16,7 @@ use Rattle.pool_law.specs.Leaks.{accesses}
 use Rattle.pool_law.specs.Logs.{History}
 use Rattle.pool_law.specs.NotedHistories.{noted_dids}
 use Rattle.pool_law.proofs.SameLemmas.{and-first, and-second}
-use Rattle.table_law.proofs.BinSteps.{so}
+use Rattle.history_laws.proofs.BinSteps.{so}
 use Rattle.shared_pool.specs.RootPlaces.{watch_after, lane_dids}
 
 -- whether the root is present after a note, and the access that a note is to it while it is present

@@ -24,8 +24,8 @@ use Rattle.pool_law.specs.NotedHistories.{noted_dids, IsRightAt}
 use Rattle.pool_law.specs.Places.{IsInPlace}
 use Rattle.pool_law.specs.Same.{same_root}
 use Rattle.pool_law.specs.Roots.{Present, RootPlace as LawPlace}
-use Rattle.table_law.specs.Histories.{IsHistory, root_after}
-use Rattle.table_law.specs.Measures.{measures_of}
+use Rattle.history_laws.specs.Histories.{IsHistory, root_after}
+use Rattle.history_laws.specs.Measures.{measures_of}
 use Rattle.pool_table.specs.declared.views.Entry.TheVariants.{At}
 use Rattle.pool_table.specs.declared.views.Layout.{Layout}
 use Rattle.pool_table.specs.declared.views.SeatView.{SeatView}

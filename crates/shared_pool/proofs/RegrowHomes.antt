@@ -14,7 +14,7 @@ use Rattle.pool_law.specs.Leaks.{accesses}
 use Rattle.pool_law.specs.Places.{IsInPlace}
 use Rattle.pool_law.specs.Roots.{new_place, place_step}
 use Rattle.pool_law.proofs.HistoryLemmas.{after-noted}
-use Rattle.table_law.specs.Histories.{root_after}
+use Rattle.history_laws.specs.Histories.{root_after}
 use Rattle.handle_bin.specs.Bins.{HandleValue}
 use Rattle.leak_records.specs.Records.{Tracked, HasRecords}
 use Rattle.shared_pool.specs.RootPlaces.{RootState, PlaceState, law_place, lane_dids, IsRootAt, PlaceStandsFor}

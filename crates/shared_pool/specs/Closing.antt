@@ -4,11 +4,11 @@ use Rattle.pool_law.specs.declared.id.RootId.{RootId}
 use Rattle.pool_law.specs.declared.note.Note.{Note}
 use Rattle.pool_law.specs.declared.run.Shape.{Shape}
 use Rattle.pool_law.specs.NotedHistories.{entry_of_noted}
-use Rattle.pool_law.specs.Logs.{Logs, Entry, of_lane, history_of, entries_of}
+use Rattle.pool_law.specs.Logs.{Logs, ToldNote, of_lane, history_of, entries_of}
 use Rattle.pool_law.specs.Counts.{TotalHolds, count_over, names_root, is_birth}
 use Rattle.pool_law.specs.Busy.{BusyHolds}
 use Rattle.pool_law.specs.Legal.{HistoriesHold, others_retains}
-use Rattle.pool_table.specs.declared.views.Entry.{Entry as SeatEntry}
+use Rattle.pool_table.specs.declared.views.Entry.{Entry}
 use Rattle.pool_table.specs.declared.views.Entry.TheVariants.{At, Ref, Busy}
 use Rattle.pool_table.specs.declared.views.Part.{Part}
 use Rattle.pool_table.specs.declared.views.SeatView.{SeatView}
@@ -17,12 +17,12 @@ use Rattle.run_order.specs.Order.{InOneOrder}
 use Rattle.shared_pool.specs.Looks.{LooksRight}
 
 -- an entry of a part as a note of a log, and as an entry that knows its root and region
-abbrev pub note_of : SeatEntry → Note
+abbrev pub note_of : Entry → Note
 note_of (At object number noted) = Note.At object number noted.did
 note_of (Ref root did) = Note.Ref root did
 note_of (Busy held) = Note.Busy held
 
-abbrev pub entry_of : SeatEntry → Entry
+abbrev pub entry_of : Entry → ToldNote
 entry_of (At object number noted) = entry_of_noted object number noted
 entry_of (Ref root did) = record { note = Note.Ref root did; root = None; region = None }
 entry_of (Busy held) = record { note = Note.Busy held; root = None; region = None }
@@ -32,7 +32,7 @@ abbrev pub logs_in : List Part → Logs
 logs_in parts = map (λ p. map note_of p.notes) parts
 
 -- and with what each entry knows
-abbrev pub entries_in : List Part → List (List Entry)
+abbrev pub entries_in : List Part → List (List ToldNote)
 entries_in parts = map (λ p. map entry_of p.notes) parts
 
 -- the parts are those of the lanes, in order

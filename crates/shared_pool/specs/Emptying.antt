@@ -5,9 +5,9 @@ use Rattle.ground.specs.Ground.{Segment}
 use Rattle.ground.specs.Grounds.{Grounds}
 use Rattle.pool_law.specs.declared.id.RegionId.{RegionId}
 use Rattle.pool_law.specs.Places.{IsInPlace}
-use Rattle.table_law.specs.NoteCounts.{is_taking}
-use Rattle.arena_law.specs.Slots.{ArenaHolds}
-use Rattle.arena_law.specs.Covered.{IsCovered}
+use Rattle.history_laws.specs.NoteCounts.{is_taking}
+use Rattle.arena_laws.specs.Slots.{ArenaHolds}
+use Rattle.arena_laws.specs.Covered.{IsCovered}
 use Rattle.pool_arena.specs.ArenaStates.{ArenaState, law_of, AreGroundsOf, IsOutOf, IsInPlaceUnder, Gives, AtRest}
 use Rattle.region_cache.specs.Queues.{Queue}
 use Rattle.shared_pool.specs.RootPlaces.{PlaceState}

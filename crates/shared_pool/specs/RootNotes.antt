@@ -8,7 +8,7 @@ use Rattle.pool_law.specs.declared.note.Object.{Object}
 use Rattle.pool_law.specs.declared.note.RefDid.{RefDid}
 use Rattle.pool_law.specs.declared.report.Watch.{Watch}
 use Rattle.pool_law.specs.Naming.{noted_by}
-use Rattle.table_law.specs.Histories.{IsHistory}
+use Rattle.history_laws.specs.Histories.{IsHistory}
 use Rattle.pool_table.specs.declared.roots.EndToken.{EndToken}
 use Rattle.shared_pool.specs.declared.seat.PoolSeat.{PoolSeat}
 use Rattle.pool_table.specs.declared.views.Entry.TheVariants.{At}

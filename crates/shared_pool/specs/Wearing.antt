@@ -3,7 +3,7 @@ use Rattle.std.specs.Prelude.{◌≡◌, ℕ, ◌*◌, ◌<◌, List}
 use Rattle.pool_law.specs.declared.note.Noted.{Noted}
 use Rattle.pool_law.specs.declared.note.Object.TheVariants.{Root}
 use Rattle.pool_law.specs.Roots.{RootPlace}
-use Rattle.table_law.specs.Histories.{IsPlaceAfter}
+use Rattle.history_laws.specs.Histories.{IsPlaceAfter}
 use Rattle.pool_table.specs.declared.views.Layout.{Layout}
 use Rattle.shared_pool.specs.declared.seat.PoolSeat.{PoolSeat}
 use Rattle.pool_table.specs.Learned.{Enters}

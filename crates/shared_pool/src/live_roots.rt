@@ -13,8 +13,7 @@ use crate::home::Home;
 use crate::root_place::{Root, RootPlace};
 use crate::spares::{KEPT, add};
 use leak_records::{LiveRoot, Tracker};
-use pool_law::list::Items;
-use pool_law::{Access, Shape};
+use pool_law::{Access, Items, Shape};
 use size_classes::CACHED_CLASSES;
 
 // The watched roots that are present, by root place, in a vector that has room. Each gets one of

@@ -5,14 +5,14 @@ ghost use Rattle.size_classes.specs.Sizes.{class_count, is_small};
 ghost use Rattle.size_classes.specs.Pages.{NoneEmpty};
 ghost use Rattle.size_classes.specs.Elements.{is_idle, with_back};
 ghost use Rattle.pool_law.specs.Arenas.{front_of, given_place, chunk_at};
-ghost use Rattle.arena_law.specs.Orderly.{IsOrderly};
+ghost use Rattle.arena_laws.specs.Orderly.{IsOrderly};
 ghost use Rattle.pool_arena.specs.Closing.{IsResting, HasNoFront};
 
-use super::{Stock, settle};
-use crate::front::Spot;
+use super::{ChunkStock, settle};
+use crate::front::SubpageAt;
 use ground::Piece;
 
-impl Stock {
+impl ChunkStock {
     ghost use Rattle.pool_arena.specs.Stocks.{arena_in, Becomes, HasChunk, IsPlaceOut, IsElementOutOf, IsIdleAt, element_back, subpage_given};
 
     /// The place of a class in the chunk at a place comes back.
@@ -55,7 +55,7 @@ impl Stock {
         let offset = piece.start() as u32;
         let page = self.places[chunk as usize].start_of(offset / self.page);
         let index = (offset - self.page * page) / self.classes.size_of(class);
-        let spot = Spot { chunk, page };
+        let spot = SubpageAt { chunk, page };
         let idle = self.element_back(class, spot, index, piece);
         if !idle {
             return;
@@ -68,7 +68,7 @@ impl Stock {
 
     // An element of a subpage comes back, and the subpage enters its list if it was full.
     // Answers whether it is idle.
-    fn element_back(&mut self, class: u32, spot: Spot, index: u32, piece: Piece) -> bool
+    fn element_back(&mut self, class: u32, spot: SubpageAt, index: u32, piece: Piece) -> bool
         requires class { (class < class_count self.old.geometry)
             × (is_small self.old.geometry class ≡ true) }
         requires out { IsElementOutOf self.old class spot.chunk spot.page index piece }
@@ -89,7 +89,7 @@ impl Stock {
     }
 
     // An idle subpage leaves its list and gives its run back, and its chunk settles.
-    fn drop_subpage(&mut self, class: u32, spot: Spot)
+    fn drop_subpage(&mut self, class: u32, spot: SubpageAt)
         requires class { class < class_count self.old.geometry }
         requires idle { IsIdleAt self.old class spot.chunk spot.page }
         requires some { NoneEmpty (chunk_at (arena_in self.old) spot.chunk) }

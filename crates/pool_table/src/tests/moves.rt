@@ -6,7 +6,7 @@ ghost use Rattle.pool_law.specs.declared.note.Noted.{Noted};
 ghost use Rattle.pool_law.specs.declared.note.Object.TheVariants.{Root};
 ghost use Rattle.pool_law.specs.Homes.{IsObjectOf};
 ghost use Rattle.pool_law.specs.NotedHistories.{MayNote};
-ghost use Rattle.table_law.specs.Histories.{IsHistory};
+ghost use Rattle.history_laws.specs.Histories.{IsHistory};
 ghost use Rattle.pool_table.specs.declared.views.Entry.TheVariants.{At};
 ghost use Rattle.pool_table.specs.Counts.{HasCount};
 ghost use Rattle.pool_table.specs.Hands.{MayEnter, PutsDown};

@@ -5,8 +5,9 @@ use crate::tests::{
     Birth, CACHE, Parts, answered, at, is_played, log_of, placed, push_birth, push_born, push_end,
     push_ended, region, run_of, shape,
 };
-use pool_law::list::{CommandList, Items};
-use pool_law::{Command, Did, LaneLog, Object, Place, RegionId, Reply, RootId, Run, Shape};
+use pool_law::{
+    Command, CommandList, Did, Items, LaneLog, Object, Place, RegionId, Reply, RootId, Run, Shape,
+};
 use run_check::{Breach, find_breach};
 use std::alloc::{AllocError, Global};
 use std::test::*;

@@ -4,8 +4,7 @@ use crate::tests::asking::{
     Closed, PLACE, SIXTEEN, get, least, placed_in, push_caches, push_sixteen, push_taken, wider,
 };
 use crate::tests::{Parts, answered, at, cache_of, is_played, log_of, push_end, run_of, shape};
-use pool_law::list::{Bytes, CommandList, Items};
-use pool_law::{Answered, Command, Did, Note, Object, Reply, Run};
+use pool_law::{Answered, Bytes, Command, CommandList, Did, Items, Note, Object, Reply, Run};
 use run_check::{Breach, find_breach};
 use std::alloc::{AllocError, Global};
 use std::test::*;

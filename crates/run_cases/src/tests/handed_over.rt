@@ -7,8 +7,7 @@ use crate::tests::{
 };
 use log_order::Spot;
 use play_check::{Played, check_played};
-use pool_law::list::{Bytes, CommandList, Items};
-use pool_law::{Command, Did, LaneLog, Note, Object, Reply, Run};
+use pool_law::{Bytes, Command, CommandList, Did, Items, LaneLog, Note, Object, Reply, Run};
 use run_check::check_run;
 use std::alloc::{AllocError, Global};
 use std::test::*;

@@ -4,8 +4,7 @@ use crate::tests::{
     Birth, CACHE, ELEMENT, Parts, answered, at, is_played, log_of, placed, push_birth, push_born,
     push_closing, push_end, region, root, run_of, shape,
 };
-use pool_law::list::Items;
-use pool_law::{Answered, Command, Did, Note, Object, RegionId, Reply, Run};
+use pool_law::{Answered, Command, Did, Items, Note, Object, RegionId, Reply, Run};
 use run_check::check_run;
 use std::alloc::{AllocError, Global};
 use std::test::*;

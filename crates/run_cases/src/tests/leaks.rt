@@ -4,8 +4,7 @@ use crate::tests::{
     Birth, CACHE, CAPACITY, Parts, at, is_played, log_of, placed, push_birth, push_closing, region,
     root, run_of, shape,
 };
-use pool_law::list::Items;
-use pool_law::{Command, Did, Leak, Run};
+use pool_law::{Command, Did, Items, Leak, Run};
 use run_check::check_run;
 use std::alloc::{AllocError, Global};
 use std::test::*;

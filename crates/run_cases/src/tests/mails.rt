@@ -5,8 +5,7 @@ use crate::tests::{
     Birth, CACHE, Parts, answered, at, is_played, log_of, placed, push_birth, push_closing,
     push_end, region, root, run_of, shape,
 };
-use pool_law::list::{CommandList, Items};
-use pool_law::{Command, Did, LaneLog, Parcel, Reply, Run};
+use pool_law::{Command, CommandList, Did, Items, LaneLog, Parcel, Reply, Run};
 use run_check::check_run;
 use std::alloc::{AllocError, Global};
 use std::test::*;

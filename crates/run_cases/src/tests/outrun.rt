@@ -8,10 +8,9 @@ use crate::tests::two_lanes::MAIL;
 use crate::tests::{
     Parts, answered, at, cache_of, is_played, log_of, push_born, push_end, run_of, shape,
 };
-use pool_law::list::{CommandList, Items};
 use pool_law::{
-    ChunkEnd, Command, Did, LaneLog, ListName, Note, Object, Parcel, Place, RefDid, RegionId,
-    Reply, RootId, Run, ViewData,
+    ChunkEnd, Command, CommandList, Did, Items, LaneLog, ListName, Note, Object, Parcel, Place,
+    RefDid, RegionId, Reply, RootId, Run, ViewData,
 };
 use run_check::{Breach, find_breach};
 use std::alloc::{AllocError, Global};

@@ -4,8 +4,7 @@ use crate::tests::{
     Birth, CACHE, Parts, answered, at, is_played, log_of, placed, push_birth, push_closing,
     push_end, region, root, run_of, shape,
 };
-use pool_law::list::Items;
-use pool_law::{Answered, Command, Did, Note, Reply, Run, Shape};
+use pool_law::{Answered, Command, Did, Items, Note, Reply, Run, Shape};
 use run_check::check_run;
 use std::alloc::{AllocError, Global};
 use std::test::*;

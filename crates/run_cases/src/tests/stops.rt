@@ -5,8 +5,9 @@ use crate::tests::{
     Birth, CACHE, Parts, answered, at, is_played, log_of, placed, push_birth, push_closing, region,
     root, run_of, shape,
 };
-use pool_law::list::{CommandList, Items};
-use pool_law::{Answered, Command, Did, LaneLog, Leak, Note, Parcel, Reply, Run};
+use pool_law::{
+    Answered, Command, CommandList, Did, Items, LaneLog, Leak, Note, Parcel, Reply, Run,
+};
 use run_check::check_run;
 use std::alloc::{AllocError, Global};
 use std::test::*;

@@ -3,8 +3,7 @@
 use crate::tests::{
     CACHE, CAPACITY, Parts, answered, at, is_played, log_of, placed, region, run_of, shape,
 };
-use pool_law::list::Items;
-use pool_law::{Answered, Command, Did, Note, Object, RefDid, RegionId, Reply, RootId, Run};
+use pool_law::{Answered, Command, Did, Items, Note, Object, RefDid, RegionId, Reply, RootId, Run};
 use run_check::check_run;
 use std::alloc::{AllocError, Global};
 use std::test::*;

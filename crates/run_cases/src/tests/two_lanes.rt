@@ -4,9 +4,9 @@ use crate::tests::{
     Birth, CACHE, ELEMENT, Parts, answered, at, is_played, log_of, placed, push_birth,
     push_closing, push_end, region, root, run_of, shape,
 };
-use pool_law::list::{CommandList, Items};
 use pool_law::{
-    Answered, Command, Did, Held, Note, Object, Parcel, RegionId, Reply, Run, ViewData,
+    Answered, Command, CommandList, Did, Held, Items, Note, Object, Parcel, RegionId, Reply, Run,
+    ViewData,
 };
 use run_check::check_run;
 use std::alloc::{AllocError, Global};

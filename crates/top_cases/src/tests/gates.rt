@@ -7,10 +7,10 @@ use std::sync::atomic::{AtomicU64, Ordering};
 use trace_top::{Gate, Pass};
 
 /// A lane and a line.
-pub type Spot = (u32, u32);
+pub type LanePlace = (u32, u32);
 
 /// A spot that no trace has.
-pub const NOWHERE: Spot = (99, 0);
+pub const NOWHERE: LanePlace = (99, 0);
 
 /// The most lanes of a trace.
 const LANES_MOST: u32 = 16;
@@ -28,7 +28,7 @@ pub struct Barrier {
 
 impl Barrier {
     /// A gate that stops at this spot.
-    pub fn new(alloc: Global, stop: Spot) -> Result<Barrier, AllocError> {
+    pub fn new(alloc: Global, stop: LanePlace) -> Result<Barrier, AllocError> {
         let (lane, line) = stop;
         let mut asked = Vec::new(alloc);
         for _ in 0..LANES_MOST {

@@ -2,7 +2,7 @@
 //! memory, no threads. It knows no ranges, no sizes above a chunk and no composites, and allocations
 //! don't fail.
 
-use crate::tests::gates::Spot;
+use crate::tests::gates::LanePlace;
 use pool_law::{Command, Trace};
 use std::alloc::{AllocError, Global};
 use std::collections::BTreeMap;
@@ -36,7 +36,7 @@ type Way = (u32, u32, u32);
 #[derive(Drop)]
 pub struct Model {
     alloc: Global,
-    stop: Spot,
+    stop: LanePlace,
     /// The roots, in the order in which the model comes to them.
     roots: Vec<Root>,
     /// The root of each name, by lane.
@@ -51,7 +51,7 @@ pub struct Model {
     /// How many roots each lane made.
     born: BTreeMap<u32, u32>,
     /// The first word of each reply, by lane and line.
-    words: BTreeMap<Spot, &'static str>,
+    words: BTreeMap<LanePlace, &'static str>,
 }
 
 // A count, which is 0 where there is none.
@@ -61,7 +61,7 @@ fn count_of<K: Ord>(counts: &BTreeMap<K, u32>, key: &K) -> u32 {
 
 impl Model {
     /// What the lanes of a trace come to where the lane of a spot is stopped at its line.
-    pub fn of(alloc: Global, trace: &Trace, stop: Spot) -> Result<Model, AllocError> {
+    pub fn of(alloc: Global, trace: &Trace, stop: LanePlace) -> Result<Model, AllocError> {
         let mut model = Model::new(alloc, stop);
         let mut commands = 0_usize;
         for lane in trace.lanes.items() {
@@ -75,7 +75,7 @@ impl Model {
         Ok(model)
     }
 
-    fn new(alloc: Global, stop: Spot) -> Model {
+    fn new(alloc: Global, stop: LanePlace) -> Model {
         Model {
             alloc,
             stop,
@@ -264,7 +264,7 @@ impl Model {
     }
 
     /// The place and the first word of each reply, by lane and line.
-    pub fn words(&self) -> &BTreeMap<Spot, &'static str> {
+    pub fn words(&self) -> &BTreeMap<LanePlace, &'static str> {
         &self.words
     }
 
@@ -285,7 +285,7 @@ impl Model {
     }
 
     /// The live roots that are sampled, by lane and serial.
-    pub fn lost(&self) -> Result<BTreeMap<Spot, Lost>, AllocError> {
+    pub fn lost(&self) -> Result<BTreeMap<LanePlace, Lost>, AllocError> {
         let mut lost = BTreeMap::new(self.alloc);
         for root in &self.roots {
             if root.total != 0 && root.serial.wrapping_sub(1) % INTERVAL == 0 {

@@ -1,6 +1,6 @@
 //! Lanes that a gate stops, at each of their lines.
 
-use crate::tests::gates::{Barrier, NOWHERE, Spot};
+use crate::tests::gates::{Barrier, LanePlace, NOWHERE};
 use crate::tests::model::Model;
 use crate::tests::traces::{HAND_OVER, retained, server};
 use crate::tests::{judge, words_of};
@@ -109,7 +109,7 @@ fn expect_text<R: AllocGlobal + Abort>(rt: &R, text: &str, model: &Model) -> Res
 }
 
 // Sees that a gate was asked for each line of each lane in order, up to its stop.
-fn expect_asked<R: AllocGlobal + Abort>(rt: &R, gate: &Barrier, trace: &Trace, stop: Spot) {
+fn expect_asked<R: AllocGlobal + Abort>(rt: &R, gate: &Barrier, trace: &Trace, stop: LanePlace) {
     assert!(rt; gate.was_asked_in_order());
     let (stopped, line) = stop;
     let mut lane = 0_u32;
@@ -129,7 +129,7 @@ fn expect<R: Threads + Wait + Sync + AllocGlobal + Abort>(
     rt: &R,
     words: &str,
     trace: &str,
-    stop: Spot,
+    stop: LanePlace,
 ) -> Result<(), Fail> {
     let words = words_of(rt.alloc(), words)?;
     let gate = Barrier::new(rt.alloc(), stop)?;
@@ -160,7 +160,7 @@ const MANY: u32 = 200;
 const LARGE_POOL: &str = "--chunks 1 --handles 256";
 
 // The spots of a trace's commands, whose text has no spaces, and one that it hasn't.
-fn stops_of<R: AllocGlobal + Abort>(rt: &R, trace: &str) -> Result<Vec<Spot>, Fail> {
+fn stops_of<R: AllocGlobal + Abort>(rt: &R, trace: &str) -> Result<Vec<LanePlace>, Fail> {
     let mut stops = Vec::new(rt.alloc());
     stops.push(NOWHERE)?;
     let mut lane = 0_u32;
@@ -189,7 +189,7 @@ fn goes_on_around_a_lane_stopped_anywhere(rt: HostRuntime) -> Result<(), Fail> {
 
 /// Where lanes of the large server are stopped: at its begin, in its middle and at its end, a client at
 /// each of the five commands of a buffer, the server at each of its three.
-const LARGE_STOPS: [Spot; 18] = [
+const LARGE_STOPS: [LanePlace; 18] = [
     NOWHERE,
     (0, 0),
     (0, 1),

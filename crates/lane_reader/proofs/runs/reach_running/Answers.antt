@@ -2,7 +2,7 @@ use Rattle.std.proofs.Common.{◌≡◌, ◌+◌, ◌-◌, ◌^◌, ◌<◌, len
 use Rattle.pool_law.specs.declared.command.Command.{Command}
 use Rattle.pool_law.specs.LaneStates.{new_lane}
 use Rattle.pool_law.specs.LaneLaw.{sweep_period, lane_step}
-use Rattle.pool_law.specs.Readers.{Entries}
+use Rattle.pool_law.specs.Readers.{ToldNotes}
 use Rattle.lane_reader.specs.Candidates.{HasFewNames}
 use Rattle.lane_reader.specs.Reading.{entries}
 use Rattle.lane_reader.proofs.BoundLemmas.{are_bounded-more, new-bounded}
@@ -88,7 +88,7 @@ returns-then-not-branch c =
           run-next cs rs i command r commands replies es left is setting.lane setting.shape.now here.state here.runs
           all in
           c.in_ok-turn.ensures.bad here.state here.is c.if-not-branch.true next.0
-          (ap (λ (piece : Entries). lane_step sweep_period setting.shape.now setting.lane here.state command piece)
+          (ap (λ (piece : ToldNotes). lane_step sweep_period setting.shape.now setting.lane here.state command piece)
           c.first-piece.ensures.entries
           ∙ next.1),
     )
@@ -112,7 +112,7 @@ loop-i-preserved c =
     let step :
     lane_step sweep_period setting.shape.now setting.lane here.state command (take r.notes left)
     ≡ Some (r.reply, turned.next) =
-    ap (λ (piece : Entries). lane_step sweep_period setting.shape.now setting.lane here.state command piece)
+    ap (λ (piece : ToldNotes). lane_step sweep_period setting.shape.now setting.lane here.state command piece)
     (sym c.first-piece.ensures.entries)
     ∙ turned.step in
     record {

@@ -1,7 +1,7 @@
 use Rattle.std.proofs.Common.{◌≡◌, ◌≢◌, ◌<◌, ◌∙◌, ◌++◌, List, [], ◌∷◌, refl, sym, subst, arith, inl, inr, lit<}
 use Rattle.size_classes.specs.Sizes.{Geometry, class_count}
 use Rattle.pool_law.specs.declared.id.RegionId.{RegionId}
-use Rattle.arena_law.specs.Slots.{IsOne}
+use Rattle.arena_laws.specs.Slots.{IsOne}
 use Rattle.pool_arena.specs.ArenaStates.{ArenaState, IsNew, Takes, Gives, IsOutOf, without_taking}
 use Rattle.pool_arena.specs.Trials.{HasOut}
 use Rattle.pool_arena.proofs.OutLaws.{new-out, new-takings, take-out, take-takings, taken-number, out-of, give-out, give-takings, taken-last, stays-out, some-places, first-place}

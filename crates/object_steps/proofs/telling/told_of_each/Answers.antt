@@ -2,7 +2,7 @@ use Rattle.std.proofs.Common.{rules, ◌≡◌, ◌+◌, ◌<◌, List, [], ◌�
 use Rattle.std.specs.Prelude.{option_map}
 use Rattle.pool_law.specs.Roots.{RootPlace, new_place, place_step}
 use Rattle.pool_law.specs.Histories.{place_after}
-use Rattle.object_steps.specs.declared.told.Told.{Told}
+use Rattle.object_steps.specs.declared.told.PlaceTold.{PlaceTold}
 use Rattle.object_steps.specs.Behind.{dids_behind}
 use Rattle.object_steps.specs.Telling.{told_by, told_of_each}
 use Rattle.object_steps.proofs.AfterLemmas.{after-one}
@@ -30,14 +30,15 @@ loop-did-preserved c =
     sym c.in-Some.is ∙ c.in_ok-next.ensures in
     let pushed : c.push.new.self.items ≡ c.loop-did.told.items ++ told_by c.did-item.result.now c.loop-did.place.present
     ∷ [] =
-    c.in_ok-push.ensures.items ∙ ap (λ (t : Told). c.loop-did.told.items ++ t ∷ []) c.told-here.ensures in
+    c.in_ok-push.ensures.items ∙ ap (λ (t : PlaceTold). c.loop-did.told.items ++ t ∷ []) c.told-here.ensures in
     record {
       after =
           sym (after-one (place_step c.args.number) dids i c.loop-did.place c.did-item.result there c.did-item.is
           (Some c.in-Some.next) next)
           ∙ c.loop-did.invariant.after;
       told =
-          ap (λ (xs : List Told). xs ++ told_of_each c.args.number c.in-Some.next (drop (i + 1) (dids_behind dids)))
+          ap (λ (xs : List PlaceTold). xs ++ told_of_each c.args.number c.in-Some.next (drop (i + 1) (dids_behind
+          dids)))
           pushed
           ∙ told-more c.args.number dids i c.loop-did.place c.in-Some.next c.loop-did.told.items c.did-item.result there
           c.did-item.is next

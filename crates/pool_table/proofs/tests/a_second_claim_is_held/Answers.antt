@@ -6,7 +6,7 @@ use Rattle.pool_law.specs.declared.note.Did.TheVariants.{Handle}
 use Rattle.pool_law.specs.declared.note.Object.{Object}
 use Rattle.pool_law.specs.Naming.{noted_by}
 use Rattle.pool_table.specs.Seats.{view_of}
-use Rattle.pool_table.specs.declared.table.Slot.{Slot}
+use Rattle.pool_table.specs.declared.table.HomeSlot.{HomeSlot}
 use Rattle.pool_table.specs.Sections.{IsInside}
 use Rattle.pool_table.proofs.Trials.{none_of, first_handle}
 use Rattle.pool_table.proofs.tests.a_second_claim_is_held.Goals as goal
@@ -27,7 +27,7 @@ done-noted_at-requires-clause-section g c =
     let n : Noted = record { did = Handle 0; lane = None; watch = None; root = None; region = None } in record {
       history = h;
       inside =
-          subst (λ (y : Object × Slot). IsInside shape c.claim.new.seat.seat.me y.0 y.1 h)
+          subst (λ (y : Object × HomeSlot). IsInside shape c.claim.new.seat.seat.me y.0 y.1 h)
           (λ q. (sym object q, sym same.1 q)) got.inside;
       follows =
           first_handle shape c.write.new.section.object h (view_of c.claim.new.seat).own.number

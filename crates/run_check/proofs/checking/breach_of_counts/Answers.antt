@@ -4,7 +4,7 @@ use Rattle.pool_law.specs.declared.id.RootId.{RootId}
 use Rattle.pool_law.specs.declared.report.Leak.{Leak}
 use Rattle.pool_law.specs.declared.run.LaneLog.{LaneLog}
 use Rattle.pool_law.specs.Leaks.{leaks_of}
-use Rattle.pool_law.specs.Logs.{Entry, of_lane, entries_of}
+use Rattle.pool_law.specs.Logs.{ToldNote, of_lane, entries_of}
 use Rattle.pool_law.specs.Counts.{CountsHold, TotalHolds, count_in, count_over, is_birth, names_root}
 use Rattle.pool_law.specs.Legal.{LooksHold, others_retains}
 use Rattle.run_check.specs.Placing.{BreaksFirst, DifferAt}
@@ -16,17 +16,17 @@ use Rattle.run_check.proofs.LeakLemmas.{leaks-are}
 use Rattle.run_check.proofs.checking.breach_of_counts.Goals as goal
 
 -- each root that is named was born
-abbrev AreBorn : List (List Entry) → Type 0
+abbrev AreBorn : List (List ToldNote) → Type 0
 AreBorn logs = (root : RootId) → 0 < count_over (names_root root) logs → 0 < count_over (is_birth root) logs
 
 -- the totals of the roots that were born
-abbrev AreTotal : List (List Entry) → Type 0
+abbrev AreTotal : List (List ToldNote) → Type 0
 AreTotal logs = (root : RootId) → 0 < count_over (is_birth root) logs → TotalHolds root logs
 
 pub returns-in-Some : goal.returns-in-Some
 returns-in-Some c =
     subst
-    (λ (ls : List LaneLog). BreaksFirst (λ lane (es : List Entry). (root : RootId) → CountsHold root 0 es)
+    (λ (ls : List LaneLog). BreaksFirst (λ lane (es : List ToldNote). (root : RootId) → CountsHold root 0 es)
     (entries_of (notes_in ls)) c.in-Some.spot)
     c.items-logs.ensures (rw c.in-Some.is at c.in_ok-spot.ensures)
 
@@ -42,7 +42,7 @@ pub returns-in-Some-3 : goal.returns-in-Some-3
 returns-in-Some-3 c =
     subst
     (λ (ls : List LaneLog). BreaksFirst
-    (λ lane (es : List Entry). (root : RootId) → 0 < count_in (names_root root) es →
+    (λ lane (es : List ToldNote). (root : RootId) → 0 < count_in (names_root root) es →
     0 < count_over (is_birth root) (entries_of (notes_in ls)))
     (entries_of (notes_in ls)) c.in-Some-3.spot)
     c.items-logs.ensures (rw c.in-Some-3.is at c.in_ok-spot-2.ensures)
@@ -51,7 +51,7 @@ pub returns-in-Some-4 : goal.returns-in-Some-4
 returns-in-Some-4 c =
     subst
     (λ (ls : List LaneLog). BreaksFirst
-    (λ lane (es : List Entry). (root : RootId) →
+    (λ lane (es : List ToldNote). (root : RootId) →
     LooksHold root (others_retains root lane 0 (entries_of (notes_in ls))) 0 0 0 es)
     (entries_of (notes_in ls)) c.in-Some-4.spot)
     c.items-logs.ensures (rw c.in-Some-4.is at c.in_ok-spot-3.ensures)

@@ -2,8 +2,8 @@ use Rattle.std.proofs.Common.{rules, ◌≡◌, ◌+◌, ◌<◌, ◌≤◌, Lis
 use Rattle.std.specs.Prelude.{◌↔◌, IsTrue, slice_get, unwrap_or}
 use Rattle.std.proofs.lemmas.Bool.{false≢true}
 use Rattle.pool_law.specs.declared.id.RootId.{RootId}
-use Rattle.pool_law.specs.Logs.{Entry}
-use Rattle.object_steps.specs.declared.told.Told.{Told}
+use Rattle.pool_law.specs.Logs.{ToldNote}
+use Rattle.object_steps.specs.declared.told.PlaceTold.{PlaceTold}
 use Rattle.run_check.specs.Counting.{count_in}
 use Rattle.run_check.specs.Needing.{NeedsHold}
 use Rattle.lane_reader.specs.Reading.{untold, entry, entries}
@@ -23,14 +23,14 @@ returns-then-not-may_note c =
     let i = c.loop-at.at in
     let note = get_or log.notes.now i c.index-log-at.result in
     let old = count_in c.loop-at.counts in
-    let e : Entry = entry note (unwrap_or (slice_get log.told.now i) untold) in
-    let es : List Entry = drop (i + 1) (entries log) in
+    let e : ToldNote = entry note (unwrap_or (slice_get log.told.now i) untold) in
+    let es : List ToldNote = drop (i + 1) (entries log) in
     let there : i < length log.notes.now = search rules in
     let here : drop i (entries log) ≡ e ∷ es =
     entries-at log.notes.now log.told.now i note there (ap (get_or log.notes.now i) c.index-log-at.is) in
     let within : i < length log.told.now = omega (arith, there, c.requires) in
     let may : IsTrue c.may_note.result ↔ ((root : RootId) → NeedsHold root (old root) e) =
-    subst (λ (t : Told). IsTrue c.may_note.result ↔ ((root : RootId) → NeedsHold root (old root) (entry note t)))
+    subst (λ (t : PlaceTold). IsTrue c.may_note.result ↔ ((root : RootId) → NeedsHold root (old root) (entry note t)))
     (told-or log.told.now i _ within) c.may_note.ensures in
     breaks-here AllNeeds counts_after AllCounts (λ s root. tt) all-counts-front all-counts-back (λ root. 0)
     (entries log) i old e es c.loop-at.invariant here
@@ -43,14 +43,14 @@ loop-at-preserved c =
     let note = get_or log.notes.now i c.index-log-at.result in
     let old = count_in c.loop-at.counts in
     let new = count_in c.pass.new.self in
-    let e : Entry = entry note (unwrap_or (slice_get log.told.now i) untold) in
-    let es : List Entry = drop (i + 1) (entries log) in
+    let e : ToldNote = entry note (unwrap_or (slice_get log.told.now i) untold) in
+    let es : List ToldNote = drop (i + 1) (entries log) in
     let there : i < length log.notes.now = search rules in
     let here : drop i (entries log) ≡ e ∷ es =
     entries-at log.notes.now log.told.now i note there (ap (get_or log.notes.now i) c.index-log-at.is) in
     let within : i < length log.told.now = omega (arith, there, c.requires) in
     let may : IsTrue c.may_note.result ↔ ((root : RootId) → NeedsHold root (old root) e) =
-    subst (λ (t : Told). IsTrue c.may_note.result ↔ ((root : RootId) → NeedsHold root (old root) (entry note t)))
+    subst (λ (t : PlaceTold). IsTrue c.may_note.result ↔ ((root : RootId) → NeedsHold root (old root) (entry note t)))
     (told-or log.told.now i _ within) c.may_note.ensures in
     reached-more AllNeeds counts_after AllCounts (λ s root. tt) all-counts-front all-counts-back (λ root. 0)
     (entries log) i old e es c.loop-at.invariant here new (λ k root. c.in_ok-pass.ensures root k)

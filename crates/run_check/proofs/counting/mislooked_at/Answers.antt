@@ -2,7 +2,7 @@ use Rattle.std.proofs.Common.{rules, ◌≡◌, ◌+◌, ◌<◌, ◌≤◌, Lis
 use Rattle.std.specs.Prelude.{slice_get, unwrap_or}
 use Rattle.std.proofs.lemmas.Bool.{false≢true}
 use Rattle.pool_law.specs.declared.id.RootId.{RootId}
-use Rattle.pool_law.specs.Logs.{Entry}
+use Rattle.pool_law.specs.Logs.{ToldNote}
 use Rattle.lane_reader.specs.Reading.{untold, entry, entries}
 use Rattle.run_check.specs.Tallying.{others_sum}
 use Rattle.run_check.proofs.ReadingLemmas.{entries-at, entries-past}
@@ -30,8 +30,8 @@ returns-then-not-branch c =
     let i = c.loop-at.at in
     let note = c.note-item.result in
     let old = passed c.loop-at.own c.loop-at.counts in
-    let e : Entry = entry note (unwrap_or (slice_get log.told.now i) untold) in
-    let es : List Entry = drop (i + 1) (entries log) in
+    let e : ToldNote = entry note (unwrap_or (slice_get log.told.now i) untold) in
+    let es : List ToldNote = drop (i + 1) (entries log) in
     let there : i < length log.notes.now = search rules in
     let here : drop i (entries log) ≡ e ∷ es =
     entries-at log.notes.now log.told.now i note there c.note-item.is in
@@ -47,8 +47,8 @@ loop-at-preserved c =
     let note = c.note-item.result in
     let old = passed c.loop-at.own c.loop-at.counts in
     let new = passed c.pass-in-loop-at.new.self c.pass.new.self in
-    let e : Entry = entry note (unwrap_or (slice_get log.told.now i) untold) in
-    let es : List Entry = drop (i + 1) (entries log) in
+    let e : ToldNote = entry note (unwrap_or (slice_get log.told.now i) untold) in
+    let es : List ToldNote = drop (i + 1) (entries log) in
     let there : i < length log.notes.now = search rules in
     let here : drop i (entries log) ≡ e ∷ es =
     entries-at log.notes.now log.told.now i note there c.note-item.is in

@@ -3,7 +3,7 @@ use Rattle.std.specs.Prelude.{slice_get, unwrap_or}
 use Rattle.pool_law.specs.declared.note.Note.{Note}
 use Rattle.pool_law.specs.declared.note.Object.{Object}
 use Rattle.pool_law.specs.Logs.{entry_of}
-use Rattle.object_steps.specs.declared.told.Told.{Told}
+use Rattle.object_steps.specs.declared.told.PlaceTold.{PlaceTold}
 use Rattle.lane_reader.specs.Reading.{untold, entry}
 use Rattle.run_check.specs.Entering.{IsNotedIn}
 use Rattle.run_check.proofs.EnteringLemmas.{told-root}
@@ -20,5 +20,5 @@ returns-in-Root c shape logs are noted =
     (sym is)
     (λ there.
     told-root shape logs m are c.in-Root.place number c.in-At.did there c.told_of.result
-    (c.told_of.ensures ∙ ap (λ (ts : List Told). unwrap_or (slice_get ts (number - 1)) untold) c.told.ensures))
+    (c.told_of.ensures ∙ ap (λ (ts : List PlaceTold). unwrap_or (slice_get ts (number - 1)) untold) c.told.ensures))
     noted

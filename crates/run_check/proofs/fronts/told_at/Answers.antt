@@ -5,7 +5,7 @@ use Rattle.std.proofs.lemmas.Result.{IfOk-weaker}
 use Rattle.pool_law.specs.declared.note.Object.{Object}
 use Rattle.pool_law.specs.Roots.{new_place}
 use Rattle.pool_law.specs.Histories.{place_after}
-use Rattle.object_steps.specs.declared.told.Told.{Told}
+use Rattle.object_steps.specs.declared.told.PlaceTold.{PlaceTold}
 use Rattle.object_steps.specs.Behind.{dids_behind}
 use Rattle.object_steps.specs.Telling.{told_of_each}
 use Rattle.run_check.specs.Storing.{TellsOf}
@@ -21,8 +21,8 @@ returns-in-Root c =
     (λ (o : Object). IfOk c.told_of_each.result (λ told. TellsOf shape o ds told))
     (sym c.in-Root.is)
     (IfOk-weaker c.told_of_each.result
-    (λ (told : Option (Vec Told Global)). option_map (λ t. t.items) told
+    (λ (told : Option (Vec PlaceTold Global)). option_map (λ t. t.items) told
     ≡ option_map (λ _. told_of_each place new_place ds) (place_after place ds))
-    (λ (told : Option (Vec Told Global)). TellsOf shape (Object.Root place) ds told)
+    (λ (told : Option (Vec PlaceTold Global)). TellsOf shape (Object.Root place) ds told)
     (λ told e. tells-root shape place ds told e)
     c.told_of_each.ensures)

@@ -2,7 +2,7 @@ use Rattle.std.proofs.Common.{rules, ◌≡◌, ℕ, ◌<◌, ◌≤◌, List, l
 use Rattle.pool_law.specs.declared.command.Command.{Command}
 use Rattle.pool_law.specs.declared.run.Answered.{Answered}
 use Rattle.pool_law.specs.declared.run.Shape.{Shape}
-use Rattle.pool_law.specs.Logs.{Entry, of_lane, entries_of}
+use Rattle.pool_law.specs.Logs.{ToldNote, of_lane, entries_of}
 use Rattle.pool_law.specs.LaneLaw.{IsLaneLog}
 use Rattle.pool_law.specs.Legal.{AreCommands}
 use Rattle.lane_reader.specs.Unlike.{IsUnlikeAt}
@@ -12,20 +12,20 @@ use Rattle.run_check.proofs.LaneLemmas.{lane-at, replies-get}
 use Rattle.run_check.proofs.lanes.first_misanswered.Goals as goal
 
 -- the same command breaks the law of the same commands, replies and entries
-same-unlike : (shape : Shape) (lane at : ℕ) (cs ds : List Command) (rs qs : List Answered) (es fs : List Entry) →
+same-unlike : (shape : Shape) (lane at : ℕ) (cs ds : List Command) (rs qs : List Answered) (es fs : List ToldNote) →
     cs ≡ ds → rs ≡ qs → es ≡ fs → IsUnlikeAt shape lane cs rs es at → IsUnlikeAt shape lane ds qs fs at
 same-unlike shape lane at cs ds rs qs es fs c r e h =
     subst (λ (xs : List Command). IsUnlikeAt shape lane xs qs fs at) c
     (subst (λ (xs : List Answered). IsUnlikeAt shape lane cs xs fs at) r
-    (subst (λ (xs : List Entry). IsUnlikeAt shape lane cs rs xs at) e h))
+    (subst (λ (xs : List ToldNote). IsUnlikeAt shape lane cs rs xs at) e h))
 
 -- the law of the same commands, replies and entries
-same-log : (shape : Shape) (lane : ℕ) (cs ds : List Command) (rs qs : List Answered) (es fs : List Entry) →
+same-log : (shape : Shape) (lane : ℕ) (cs ds : List Command) (rs qs : List Answered) (es fs : List ToldNote) →
     cs ≡ ds → rs ≡ qs → es ≡ fs → IsLaneLog shape lane cs rs es → IsLaneLog shape lane ds qs fs
 same-log shape lane cs ds rs qs es fs c r e h =
     subst (λ (xs : List Command). IsLaneLog shape lane xs qs fs) c
     (subst (λ (xs : List Answered). IsLaneLog shape lane cs xs fs) r
-    (subst (λ (xs : List Entry). IsLaneLog shape lane cs rs xs) e h))
+    (subst (λ (xs : List ToldNote). IsLaneLog shape lane cs rs xs) e h))
 
 pub first_unlike-requires-clause-commands : goal.first_unlike-requires-clause-commands
 first_unlike-requires-clause-commands c =

@@ -1,7 +1,7 @@
 use Rattle.std.proofs.Common.{rules, ◌≡◌, ℕ, ◌<◌, ◌≤◌, List, length, map, sym, ap, subst, arith, below_more, ◌∙◌}
 use Rattle.pool_law.specs.declared.id.RootId.{RootId}
 use Rattle.pool_law.specs.declared.note.Note.{Note}
-use Rattle.pool_law.specs.Logs.{Entry, of_lane, entry_of, entries_of}
+use Rattle.pool_law.specs.Logs.{ToldNote, of_lane, entry_of, entries_of}
 use Rattle.pool_law.specs.Counts.{count_in, count_over, is_birth, names_root}
 use Rattle.run_check.specs.Spotting.{notes_in}
 use Rattle.run_check.specs.Tallying.{total_sums, NamesHold}
@@ -12,7 +12,7 @@ use Rattle.run_check.proofs.TotalLemmas.{each-hold, each-back, births-are, over-
 use Rattle.run_check.proofs.lanes.first_unborn.Goals as goal
 
 -- the roots that these entries name were born
-abbrev AreBorn : List (List Entry) → List Entry → Type 0
+abbrev AreBorn : List (List ToldNote) → List ToldNote → Type 0
 AreBorn all es = (root : RootId) → 0 < count_in (names_root root) es → 0 < count_over (is_birth root) all
 
 pub returns-in-Some : goal.returns-in-Some
@@ -29,7 +29,7 @@ returns-in-Some c =
     λ root. births-are g bare tallies root logs c.requires.tallies in
     let here : of_lane (notes_in logs) lane ≡ notes =
     notes-get logs lane c.index-logs-lane.result (search rules) ∙ sym c.items.ensures in
-    found-first (λ k (es : List Entry). AreBorn all es) all lane c.in-Some.at (map g notes) c.spot.result
+    found-first (λ k (es : List ToldNote). AreBorn all es) all lane c.in-Some.at (map g notes) c.spot.result
     c.spot.ensures (entries-lane (notes_in logs) lane ∙ ap (λ (ns : List Note). map g ns) here)
     c.loop-lane.invariant
     (breaks-map g (NamesHold tallies) (AreBorn all) notes c.in-Some.at
@@ -54,7 +54,7 @@ loop-lane-preserved c =
     notes-get logs lane c.index-logs-lane.result (search rules) ∙ sym c.items.ensures in
     let holds : NamesHold tallies notes = rw c.in_default.is at c.in_ok-at.ensures in
     below_more (λ (k : ℕ). AreBorn all (of_lane all k)) lane c.loop-lane.invariant
-    (subst (λ (es : List Entry). AreBorn all es)
+    (subst (λ (es : List ToldNote). AreBorn all es)
     (sym (entries-lane (notes_in logs) lane ∙ ap (λ (ns : List Note). map g ns) here))
     (λ root some.
     subst (λ (n : ℕ). 0 < n) (births-are g bare tallies root logs c.requires.tallies)
@@ -65,6 +65,6 @@ returns c =
     let all = entries_of (notes_in c.args.logs.now) in
     let past : length c.args.logs.now ≤ c.loop-lane.lane = search rules in
     let each : (k : ℕ) → AreBorn all (of_lane all k) =
-    each-lane (λ k (es : List Entry). AreBorn all es) all c.loop-lane.lane c.loop-lane.invariant
+    each-lane (λ k (es : List ToldNote). AreBorn all es) all c.loop-lane.lane c.loop-lane.invariant
     (omega (arith, past, length-entries c.args.logs.now)) (λ k root some. absurd (omega (arith, some))) in
     λ root some. over-born (names_root root) all (λ k here. each k root here) some

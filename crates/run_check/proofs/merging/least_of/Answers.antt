@@ -2,7 +2,7 @@ use Rattle.std.proofs.Common.{rules, ◌≡◌, ◌<◌, ◌≤◌, List, length
 use Rattle.std.specs.Prelude.{◌⊎◌}
 use Rattle.std.proofs.lemmas.List.{take_all}
 use Rattle.run_check.specs.Gathering.{spots_behind}
-use Rattle.run_check.specs.declared.gathering.Spot.{Spot}
+use Rattle.run_check.specs.declared.gathering.HistoryNote.{HistoryNote}
 use Rattle.run_check.proofs.LeastLemmas.{FromOn, Past, least-more, there-more}
 use Rattle.run_check.proofs.merging.least_of.Goals as goal
 
@@ -31,7 +31,7 @@ pub returns-clause-least : goal.returns-clause-least
 returns-clause-least c =
     let spots = c.args.spots.now in
     let past : length spots ≤ c.loop-spot.spot-index = search rules in
-    subst (λ (xs : List Spot). FromOn c.loop-spot.least (spots_behind xs))
+    subst (λ (xs : List HistoryNote). FromOn c.loop-spot.least (spots_behind xs))
     (take_all c.loop-spot.spot-index spots past) c.loop-spot.invariant.least
 
 pub returns-clause-there : goal.returns-clause-there
@@ -39,5 +39,5 @@ returns-clause-there c below all =
     let spots = c.args.spots.now in
     let past : length spots ≤ c.loop-spot.spot-index = search rules in
     c.loop-spot.invariant.there below
-    (subst (λ (xs : List Spot). Past c.loop-spot.least (spots_behind xs))
+    (subst (λ (xs : List HistoryNote). Past c.loop-spot.least (spots_behind xs))
     (sym (take_all c.loop-spot.spot-index spots past)) all)

@@ -1,6 +1,6 @@
 use Rattle.std.proofs.Common.{◌≡◌, ◌*◌, ◌^◌, ◌≤◌, take}
 use Rattle.std.specs.List.{sum_by}
-use Rattle.run_report.specs.Told.{refusals_in, read_in, total_in}
+use Rattle.run_report.specs.ReplyTotals.{refusals_in, read_in, total_in}
 use Rattle.run_report.proofs.told.told_by.Given as goal
 
 abbrev pub invariant-loop-answered : goal.invariant-loop-answered

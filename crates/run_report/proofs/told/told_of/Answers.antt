@@ -1,6 +1,6 @@
 use Rattle.std.proofs.Common.{◌≤◌, List, length, sum_by, All, subst, sym, ap, ◌∙◌}
 use Rattle.pool_law.specs.declared.run.LaneLog.{LaneLog}
-use Rattle.run_report.specs.Told.{read_by, refusals_by, total_by}
+use Rattle.run_report.specs.ReplyTotals.{read_by, refusals_by, total_by}
 use Rattle.run_report.proofs.ToldLaws.{refused_is, read_is, total_is}
 use Rattle.run_report.proofs.told.told_of.Goals as goal
 

@@ -1,6 +1,6 @@
 use Rattle.std.proofs.Common.{◌≡◌, ◌*◌, ◌^◌, ◌≤◌, take}
 use Rattle.std.specs.List.{sum_by}
-use Rattle.run_report.specs.Told.{refusals_by, read_by, total_by}
+use Rattle.run_report.specs.ReplyTotals.{refusals_by, read_by, total_by}
 use Rattle.run_report.proofs.told.told_over.Given as goal
 
 abbrev pub invariant-loop-log : goal.invariant-loop-log

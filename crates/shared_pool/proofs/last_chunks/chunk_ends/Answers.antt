@@ -2,7 +2,7 @@ use Rattle.std.proofs.Common.{◌≡◌, ◌++◌, ℕ, sym, ap, ◌∙◌, subs
 use Rattle.std.specs.Prelude.{Option, Some, slice_get}
 use Rattle.std.proofs.lemmas.Option.{slice_get-get_or}
 use Rattle.size_classes.specs.Sizes.{below}
-use Rattle.arena_law.proofs.SlotLemmas.{times-next}
+use Rattle.arena_laws.proofs.SlotLemmas.{times-next}
 use Rattle.shared_pool.specs.declared.home.Home.{Home}
 use Rattle.shared_pool.specs.Ends.{IsArenaOf, chunks_in, chunks_from}
 use Rattle.shared_pool.proofs.LastChunks.{arena_within, chunks_push}

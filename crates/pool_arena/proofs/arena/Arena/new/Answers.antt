@@ -1,8 +1,8 @@
 use Rattle.std.proofs.Common.{sym, subst}
 use Rattle.size_classes.specs.Sizes.{Geometry, of_pages}
 use Rattle.pool_law.specs.Arenas.{Arena}
-use Rattle.arena_law.specs.Orderly.{IsOrderly}
-use Rattle.arena_law.proofs.OrderlyTakes.{new-orderly}
+use Rattle.arena_laws.specs.Orderly.{IsOrderly}
+use Rattle.arena_laws.proofs.OrderlyTakes.{new-orderly}
 use Rattle.pool_arena.specs.Stocks.{arena_in}
 use Rattle.pool_arena.proofs.arena.Arena.new.Goals as goal
 

@@ -5,7 +5,7 @@ use Rattle.size_classes.specs.Spans.{given_back}
 use Rattle.size_classes.specs.Elements.{Elements, is_idle}
 use Rattle.run_map.specs.FreeRuns.{span_of}
 use Rattle.pool_law.specs.Chunks.{Sub}
-use Rattle.pool_chunk.specs.declared.slot.Slot.{Slot}
+use Rattle.pool_chunk.specs.declared.slot.PageUse.{PageUse}
 use Rattle.pool_chunk.specs.declared.slot.CutRun.{CutRun}
 use Rattle.pool_chunk.specs.declared.chunk.Chunk.TheInside.{Inside}
 use Rattle.pool_chunk.specs.ChunkStates.{ChunkState, IsBytesAt, page_start, HasIdleSubpage}
@@ -18,21 +18,21 @@ use Rattle.pool_chunk.proofs.chunk.Chunk.drop_subpage.Goals as goal
 pub take_cut-subpage-requires-clause-within : goal.take_cut-subpage-requires-clause-within
 take_cut-subpage-requires-clause-within c =
     let i = subst (λ (v : ChunkState). HasIdleSubpage v c.args.page) (sym c.self.view_is) c.requires in
-    subst (λ (slots : List Slot). c.args.page < length slots) (sym c.deref_mut.ensures.value)
+    subst (λ (slots : List PageUse). c.args.page < length slots) (sym c.deref_mut.ensures.value)
     (cut-within c.self.inside c.self.invariant c.args.page i.subpage)
 
 pub take_cut-subpage-requires-clause-cut : goal.take_cut-subpage-requires-clause-cut
 take_cut-subpage-requires-clause-cut c =
     let i = subst (λ (v : ChunkState). HasIdleSubpage v c.args.page) (sym c.self.view_is) c.requires in
-    subst (λ (slots : List Slot). (run : CutRun) × ((d : Slot) → get_or slots c.args.page d ≡ Slot.Cut run))
+    subst (λ (slots : List PageUse). (run : CutRun) × ((d : PageUse) → get_or slots c.args.page d ≡ PageUse.Cut run))
     (sym c.deref_mut.ensures.value)
     (cut-there c.self.inside c.self.invariant c.args.page i.subpage)
 
 -- the slot that was taken out
-stood : (slots items : List Slot) (page : _) (run : CutRun) → slots ≡ items
-    → ((d : Slot) → get_or slots page d ≡ Slot.Cut run) → Slot.Cut run ≡ get_or items page (Slot.Cut run)
+stood : (slots items : List PageUse) (page : _) (run : CutRun) → slots ≡ items
+    → ((d : PageUse) → get_or slots page d ≡ PageUse.Cut run) → PageUse.Cut run ≡ get_or items page (PageUse.Cut run)
 stood slots items page run same at =
-    sym (subst (λ (ss : List Slot). get_or ss page (Slot.Cut run) ≡ Slot.Cut run) same (at (Slot.Cut run)))
+    sym (subst (λ (ss : List PageUse). get_or ss page (PageUse.Cut run) ≡ PageUse.Cut run) same (at (PageUse.Cut run)))
 
 pub into_run-requires : goal.into_run-requires
 into_run-requires c =
@@ -41,7 +41,7 @@ into_run-requires c =
     let i = subst (λ (v : ChunkState). HasIdleSubpage v c.args.page) (sym c.self.view_is) c.requires in
     let here = stood c.deref_mut.result.now s.slots.items c.args.page run c.deref_mut.ensures.value
     c.take_cut-subpage.ensures.run in
-    let cuts = cut-is s c.self.invariant c.args.page i.subpage (Slot.Cut run) run here refl in
+    let cuts = cut-is s c.self.invariant c.args.page i.subpage (PageUse.Cut run) run here refl in
     subst (λ (e : Elements). is_idle e ≡ true) (sym cuts.elements) i.idle
 
 at : (c : goal.After-into_run) → (i : HasIdleSubpage (state_in c.self.inside) c.args.page) →
@@ -52,7 +52,7 @@ at c i =
     let run = c.take_cut-subpage.result in
     let here = stood c.deref_mut.result.now s.slots.items c.args.page run c.deref_mut.ensures.value
     c.take_cut-subpage.ensures.run in
-    cut-run s c.self.invariant c.args.page i.subpage (Slot.Cut run) run here refl c.into_run.result
+    cut-run s c.self.invariant c.args.page i.subpage (PageUse.Cut run) run here refl c.into_run.result
     c.into_run.ensures.place c.into_run.ensures.len
 
 pub give-requires-clause-pages : goal.give-requires-clause-pages
@@ -81,7 +81,7 @@ after c =
 
 follows : (c : goal.After-give) → Follows c.self.inside (after c)
     (given_back (span_of c.self.inside.map.page c.into_run.result) c.self.inside.map.runs)
-    (slice_set c.self.inside.slots.items c.args.page Slot.Nothing)
+    (slice_set c.self.inside.slots.items c.args.page PageUse.Nothing)
 follows c =
     let s = c.self.inside in
     record {
@@ -89,7 +89,7 @@ follows c =
       classes = refl;
       bytes = refl;
       slots_are =
-          written s.slots c.deref_mut.result.now c.take_cut-subpage.new.slots c.args.page Slot.Nothing
+          written s.slots c.deref_mut.result.now c.take_cut-subpage.new.slots c.args.page PageUse.Nothing
           c.deref_mut.ensures.value c.take_cut-subpage.ensures.slots;
     }
 

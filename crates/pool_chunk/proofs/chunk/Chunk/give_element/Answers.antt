@@ -2,7 +2,7 @@ use Rattle.std.proofs.Common.{◌≡◌, true, refl, sym, ap, ◌∙◌, subst}
 use Rattle.std.specs.Vec.{with_item}
 use Rattle.std.specs.Prelude.{slice_set}
 use Rattle.size_classes.specs.Elements.{Elements, with_back, is_out}
-use Rattle.pool_chunk.specs.declared.slot.Slot.{Slot}
+use Rattle.pool_chunk.specs.declared.slot.PageUse.{PageUse}
 use Rattle.pool_chunk.specs.declared.chunk.Chunk.TheInside.{Inside}
 use Rattle.pool_chunk.specs.ChunkStates.{ChunkState, IsElementOut}
 use Rattle.pool_chunk.specs.Outcomes.{element_back, freed_by}
@@ -48,11 +48,11 @@ after c =
       classes = c.self.inside.classes;
       bytes = c.self.inside.bytes;
       slots =
-          with_item c.self.inside.slots c.args.page (Slot.Cut c.take_back.new.self);
+          with_item c.self.inside.slots c.args.page (PageUse.Cut c.take_back.new.self);
     }
 
 follows : (c : goal.After-self-2-1) → Follows c.self.inside (after c) c.self.inside.map.runs
-    (slice_set c.self.inside.slots.items c.args.page (Slot.Cut c.take_back.new.self))
+    (slice_set c.self.inside.slots.items c.args.page (PageUse.Cut c.take_back.new.self))
 follows c = record { map_is = refl; classes = refl; bytes = refl; slots_are = refl }
 
 pub invariant_of-self : goal.invariant_of-self

@@ -8,7 +8,7 @@ use Rattle.size_classes.specs.Spans.{given_back}
 use Rattle.size_classes.proofs.Runs.{Begins-run_at}
 use Rattle.run_map.specs.FreeRuns.{span_of}
 use Rattle.pool_law.specs.Chunks.{Whole}
-use Rattle.pool_chunk.specs.declared.slot.Slot.{Slot}
+use Rattle.pool_chunk.specs.declared.slot.PageUse.{PageUse}
 use Rattle.pool_chunk.specs.declared.chunk.Chunk.TheInside.{Inside}
 use Rattle.pool_chunk.specs.ChunkStates.{ChunkState, IsRunOut}
 use Rattle.pool_chunk.specs.Held.{runs_in, state_in}
@@ -30,7 +30,7 @@ clear-requires-clause-within c =
     let s = c.self.inside in
     let page = c.args.page in
     let out = asked s c.args.self.now page c.args.piece c.self.view_is c.requires in
-    subst (λ (slots : List Slot). page < length slots) (sym c.deref_mut.ensures.value)
+    subst (λ (slots : List PageUse). page < length slots) (sym c.deref_mut.ensures.value)
     (slot-within s.classes s.map.runs s.slots.items (runs_in s) c.self.invariant.runs page (Used out.pages Whole)
     (begins s page c.args.piece out))
 
@@ -40,7 +40,7 @@ clear-requires-clause-run c =
     let page = c.args.page in
     let out = asked s c.args.self.now page c.args.piece c.self.view_is c.requires in (
       out.pages,
-      subst (λ (slots : List Slot). (d : Slot) → get_or slots page d ≡ Slot.Run out.pages)
+      subst (λ (slots : List PageUse). (d : PageUse) → get_or slots page d ≡ PageUse.Run out.pages)
           (sym c.deref_mut.ensures.value)
           (slot-run s.classes s.map.runs s.slots.items (runs_in s) c.self.invariant.runs page out.pages
           (begins s page c.args.piece out)),
@@ -72,7 +72,7 @@ after c =
 
 follows : (c : goal.After-give) → Follows c.self.inside (after c)
     (given_back (span_of c.self.inside.map.page c.args.piece) c.self.inside.map.runs)
-    (slice_set c.self.inside.slots.items c.args.page Slot.Nothing)
+    (slice_set c.self.inside.slots.items c.args.page PageUse.Nothing)
 follows c =
     let s = c.self.inside in
     record {
@@ -80,7 +80,7 @@ follows c =
       classes = refl;
       bytes = refl;
       slots_are =
-          written s.slots c.deref_mut.result.now c.clear.new.slots c.args.page Slot.Nothing c.deref_mut.ensures.value
+          written s.slots c.deref_mut.result.now c.clear.new.slots c.args.page PageUse.Nothing c.deref_mut.ensures.value
           c.clear.ensures;
     }
 

@@ -4,7 +4,7 @@ use Rattle.size_classes.specs.Sizes.{chunk_pages}
 use Rattle.size_classes.specs.Pages.{Span, free_runs}
 use Rattle.pool_law.specs.Chunks.{Chunk, new_chunk}
 use Rattle.pool_chunk.specs.ChunkStates.{ChunkState}
-use Rattle.pool_chunk.specs.Slots.{Entry, entries}
+use Rattle.pool_chunk.specs.Slots.{PageEntry, entries}
 use Rattle.pool_chunk.specs.Held.{runs_in}
 use Rattle.pool_chunk.proofs.SlotLaws.{all-nothing}
 use Rattle.pool_chunk.proofs.chunk.Chunk.into_piece.Goals as goal
@@ -14,7 +14,7 @@ spend-requires c =
     let s = c.self.inside in
     let is = c.self.invariant in
     let free = subst (λ (v : ChunkState). v.runs ≡ new_chunk v.geometry) (sym c.self.view_is) c.requires in
-    let blank : List Entry = replicate (chunk_pages s.classes) None in
+    let blank : List PageEntry = replicate (chunk_pages s.classes) None in
     all-nothing (chunk_pages s.classes) s.slots.items (sym is.runs.entries ∙ ap entries free ∙ append-nil blank)
 
 pub into_piece-requires : goal.into_piece-requires

@@ -1,6 +1,6 @@
 use Rattle.std.proofs.Common.{◌≡◌, ℕ, ◌/◌, ◌^◌, List, length, replicate, sym, ap, ◌∙◌, subst}
 use Rattle.size_classes.specs.Sizes.{IsGeometry, of_pages}
-use Rattle.pool_chunk.specs.declared.slot.Slot.{Slot}
+use Rattle.pool_chunk.specs.declared.slot.PageUse.{PageUse}
 use Rattle.pool_chunk.proofs.HeldLaws.{new-state, new-held, ground-pages}
 use Rattle.pool_chunk.proofs.chunk.Chunk.new.Goals as goal
 
@@ -14,7 +14,7 @@ new-requires-2-clause-chunk c = ground-pages c.args.order c.args.piece c.require
 
 pub invariant_of-result : goal.invariant_of-result
 invariant_of-result c =
-    let slots = c.in-Ok-no_runs.ensures {u = tt} ∙ ap (λ (n : ℕ). replicate n Slot.Nothing) c.pow.ensures in
+    let slots = c.in-Ok-no_runs.ensures {u = tt} ∙ ap (λ (n : ℕ). replicate n PageUse.Nothing) c.pow.ensures in
     let classes = c.in-Ok.ensures {u = tt} ∙ ap (λ (n : ℕ). of_pages c.args.order (n / 2 ^ c.args.order))
     c.len.ensures.len in
     new-held (record {
@@ -29,7 +29,7 @@ invariant_of-result c =
 
 pub returns-in-Ok-new : goal.returns-in-Ok-new
 returns-in-Ok-new c =
-    let slots = c.in-Ok-no_runs.ensures {u = tt} ∙ ap (λ (n : ℕ). replicate n Slot.Nothing) c.pow.ensures in
+    let slots = c.in-Ok-no_runs.ensures {u = tt} ∙ ap (λ (n : ℕ). replicate n PageUse.Nothing) c.pow.ensures in
     let classes = c.in-Ok.ensures {u = tt} ∙ ap (λ (n : ℕ). of_pages c.args.order (n / 2 ^ c.args.order))
     c.len.ensures.len in
     new-state (record {

@@ -4,7 +4,7 @@ use Rattle.std.specs.Vec.{with_item}
 use Rattle.size_classes.specs.Pages.{Used}
 use Rattle.size_classes.specs.Elements.{Elements, is_full}
 use Rattle.pool_law.specs.Chunks.{Sub}
-use Rattle.pool_chunk.specs.declared.slot.Slot.{Slot}
+use Rattle.pool_chunk.specs.declared.slot.PageUse.{PageUse}
 use Rattle.pool_chunk.specs.declared.chunk.Chunk.TheInside.{Inside}
 use Rattle.pool_chunk.specs.ChunkStates.{ChunkState, HasSubpage}
 use Rattle.pool_chunk.specs.Outcomes.{TakesElement}
@@ -41,11 +41,11 @@ after c =
       classes = c.self.inside.classes;
       bytes = c.self.inside.bytes;
       slots =
-          with_item c.self.inside.slots c.args.page (Slot.Cut c.hand_out.new.self);
+          with_item c.self.inside.slots c.args.page (PageUse.Cut c.hand_out.new.self);
     }
 
 follows : (c : goal.After-self-2-1) → Follows c.self.inside (after c) c.self.inside.map.runs
-    (slice_set c.self.inside.slots.items c.args.page (Slot.Cut c.hand_out.new.self))
+    (slice_set c.self.inside.slots.items c.args.page (PageUse.Cut c.hand_out.new.self))
 follows c = record { map_is = refl; classes = refl; bytes = refl; slots_are = refl }
 
 pub invariant_of-self : goal.invariant_of-self

@@ -7,7 +7,7 @@ use Rattle.size_classes.specs.Pages.{Free}
 use Rattle.size_classes.specs.Spans.{taken_from}
 use Rattle.pool_law.specs.Chunks.{Whole}
 use Rattle.run_map.specs.FreeRuns.{FreeRuns}
-use Rattle.pool_chunk.specs.declared.slot.Slot.{Slot}
+use Rattle.pool_chunk.specs.declared.slot.PageUse.{PageUse}
 use Rattle.pool_chunk.specs.declared.chunk.Chunk.TheInside.{Inside}
 use Rattle.pool_chunk.specs.Held.{IsHeld, runs_in, state_in}
 use Rattle.pool_chunk.specs.ChunkStates.{ChunkState}
@@ -33,7 +33,7 @@ fill-requires-clause-within c =
     let s = c.self.inside in
     let taken = (c.in-Some.ensures {u = tt}).some in
     let begins = taken-begins s c.self.invariant c.take.new.self c.args.pages c.in-Some.page c.in-Some.piece taken in
-    subst (λ (slots : List Slot). c.in-Some.page < length slots) (sym c.deref_mut.ensures.value)
+    subst (λ (slots : List PageUse). c.in-Some.page < length slots) (sym c.deref_mut.ensures.value)
     (slot-within s.classes s.map.runs s.slots.items (runs_in s) c.self.invariant.runs c.in-Some.page (Free taken.long)
     begins.0)
 
@@ -42,7 +42,7 @@ fill-requires-clause-nothing c =
     let s = c.self.inside in
     let taken = (c.in-Some.ensures {u = tt}).some in
     let begins = taken-begins s c.self.invariant c.take.new.self c.args.pages c.in-Some.page c.in-Some.piece taken in
-    subst (λ (slots : List Slot). (d : Slot) → get_or slots c.in-Some.page d ≡ Slot.Nothing)
+    subst (λ (slots : List PageUse). (d : PageUse) → get_or slots c.in-Some.page d ≡ PageUse.Nothing)
     (sym c.deref_mut.ensures.value)
     (slot-nothing s.classes s.map.runs s.slots.items (runs_in s) c.self.invariant.runs c.in-Some.page taken.long
     begins.0)
@@ -64,7 +64,7 @@ after c =
 
 follows : (c : goal.After-place_pack) → Follows c.self.inside (after c)
     (taken_from c.in-Some.page c.args.pages c.self.inside.map.runs)
-    (slice_set c.self.inside.slots.items c.in-Some.page (Slot.Run c.args.pages))
+    (slice_set c.self.inside.slots.items c.in-Some.page (PageUse.Run c.args.pages))
 follows c =
     let s = c.self.inside in
     record {
@@ -72,7 +72,7 @@ follows c =
       classes = refl;
       bytes = refl;
       slots_are =
-          written s.slots c.deref_mut.result.now c.fill.new.slots c.in-Some.page (Slot.Run c.args.pages)
+          written s.slots c.deref_mut.result.now c.fill.new.slots c.in-Some.page (PageUse.Run c.args.pages)
           c.deref_mut.ensures.value c.fill.ensures;
     }
 
@@ -80,7 +80,7 @@ pub invariant_of-self-in-Some : goal.invariant_of-self-in-Some
 invariant_of-self-in-Some c =
     taken-held c.self.inside c.self.invariant c.take.new.self c.args.pages c.in-Some.page c.in-Some.piece
     (c.in-Some.ensures {u = tt}).some
-    (after c) Whole (Slot.Run c.args.pages)
+    (after c) Whole (PageUse.Run c.args.pages)
     (some c.self.inside c.args.self.now c.args.pages c.self.invariant c.self.view_is c.requires) refl tt (follows c)
     tt
 
@@ -107,6 +107,6 @@ returns-in-Some-clause-some c =
       place = c.place_pack.ensures;
       rest =
           taken-state s is c.take.new.self c.args.pages c.in-Some.page c.in-Some.piece taken (after c) Whole
-          (Slot.Run c.args.pages) (some c.self.inside c.args.self.now c.args.pages c.self.invariant c.self.view_is
+          (PageUse.Run c.args.pages) (some c.self.inside c.args.self.now c.args.pages c.self.invariant c.self.view_is
           c.requires) refl tt (follows c);
     })

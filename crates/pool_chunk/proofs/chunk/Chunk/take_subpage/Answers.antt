@@ -8,7 +8,7 @@ use Rattle.size_classes.specs.Spans.{taken_from}
 use Rattle.size_classes.proofs.Powers.{size_at-least}
 use Rattle.size_classes.proofs.Subpages.{subpage_pages_within}
 use Rattle.run_map.specs.FreeRuns.{FreeRuns, IsTaken}
-use Rattle.pool_chunk.specs.declared.slot.Slot.{Slot}
+use Rattle.pool_chunk.specs.declared.slot.PageUse.{PageUse}
 use Rattle.pool_chunk.specs.declared.slot.CutRun.{CutRun}
 use Rattle.pool_chunk.specs.declared.chunk.Chunk.TheInside.{Inside}
 use Rattle.pool_chunk.specs.ChunkStates.{ChunkState}
@@ -65,7 +65,7 @@ fill-requires-clause-within c =
     let taken = (c.in-Some.ensures {u = tt}).some in
     let begins = taken-begins s c.self.invariant c.take.new.self c.subpage_pages-pages.result c.in-Some.page
     c.in-Some.piece taken in
-    subst (λ (slots : List Slot). c.in-Some.page < length slots) (sym c.deref_mut.ensures.value)
+    subst (λ (slots : List PageUse). c.in-Some.page < length slots) (sym c.deref_mut.ensures.value)
     (slot-within s.classes s.map.runs s.slots.items (runs_in s) c.self.invariant.runs c.in-Some.page (Free taken.long)
     begins.0)
 
@@ -75,7 +75,7 @@ fill-requires-clause-nothing c =
     let taken = (c.in-Some.ensures {u = tt}).some in
     let begins = taken-begins s c.self.invariant c.take.new.self c.subpage_pages-pages.result c.in-Some.page
     c.in-Some.piece taken in
-    subst (λ (slots : List Slot). (d : Slot) → get_or slots c.in-Some.page d ≡ Slot.Nothing)
+    subst (λ (slots : List PageUse). (d : PageUse) → get_or slots c.in-Some.page d ≡ PageUse.Nothing)
     (sym c.deref_mut.ensures.value)
     (slot-nothing s.classes s.map.runs s.slots.items (runs_in s) c.self.invariant.runs c.in-Some.page taken.long
     begins.0)
@@ -95,7 +95,7 @@ after c =
 
 follows : (c : goal.After-self-1) → Follows c.self.inside (after c)
     (taken_from c.in-Some.page (subpage_pages c.self.inside.classes c.args.class) c.self.inside.map.runs)
-    (slice_set c.self.inside.slots.items c.in-Some.page (Slot.Cut (run c)))
+    (slice_set c.self.inside.slots.items c.in-Some.page (PageUse.Cut (run c)))
 follows c =
     let s = c.self.inside in
     record {
@@ -105,7 +105,7 @@ follows c =
       classes = refl;
       bytes = refl;
       slots_are =
-          written s.slots c.deref_mut.result.now c.fill.new.slots c.in-Some.page (Slot.Cut (run c))
+          written s.slots c.deref_mut.result.now c.fill.new.slots c.in-Some.page (PageUse.Cut (run c))
           c.deref_mut.ensures.value c.fill.ensures;
     }
 
@@ -117,7 +117,7 @@ invariant_of-self-in-Some c =
     let taken = its s c.take.new.self class c.subpage_pages-pages.result c.in-Some.page c.in-Some.piece
     c.subpage_pages-pages.ensures.pages (c.in-Some.ensures {u = tt}).some in
     taken-held s c.self.invariant c.take.new.self (subpage_pages s.classes class) c.in-Some.page c.in-Some.piece taken
-    (after c) (new_subpage s.classes class) (Slot.Cut (run c))
+    (after c) (new_subpage s.classes class) (PageUse.Cut (run c))
     (subpage_pages_within s.classes c.self.invariant.sizes.page class is_small).0
     (new-entry s c.self.invariant class is_small c.take.new.self c.in-Some.page c.in-Some.piece taken
     c.size_of-size.result c.size_of-size.ensures.value (run c) refl c.subpage_pages-pages.ensures.pages
@@ -151,7 +151,7 @@ returns-in-Some-clause-some c =
           taken;
       rest =
           taken-state s c.self.invariant c.take.new.self (subpage_pages s.classes class) c.in-Some.page c.in-Some.piece
-          taken (after c) (new_subpage s.classes class) (Slot.Cut (run c))
+          taken (after c) (new_subpage s.classes class) (PageUse.Cut (run c))
           (subpage_pages_within s.classes c.self.invariant.sizes.page class is_small).0
           (new-entry s c.self.invariant class is_small c.take.new.self c.in-Some.page c.in-Some.piece taken
           c.size_of-size.result c.size_of-size.ensures.value (run c) refl c.subpage_pages-pages.ensures.pages

@@ -5,8 +5,8 @@ use Rattle.pool_law.specs.declared.run.Shape.{Shape}
 use Rattle.pool_law.specs.declared.note.Noted.{Noted}
 use Rattle.pool_law.specs.declared.note.Object.{Object}
 use Rattle.pool_law.specs.Naming.{noted_by}
-use Rattle.table_law.specs.Histories.{IsHistory}
-use Rattle.pool_table.specs.declared.table.Slot.{Slot}
+use Rattle.history_laws.specs.Histories.{IsHistory}
+use Rattle.pool_table.specs.declared.table.HomeSlot.{HomeSlot}
 use Rattle.pool_table.specs.declared.views.Inside.{Inside}
 use Rattle.pool_table.specs.declared.views.Entry.TheVariants.{At}
 use Rattle.pool_table.specs.declared.views.SeatView.{SeatView}
@@ -34,7 +34,7 @@ done-requires-clause-section g c =
     ∙ named_by n lane c.requires.lane number in record {
       history = h;
       inside =
-          subst (λ (y : Object × Slot). IsInside shape c.claim.new.seat.seat.me y.0 y.1 h)
+          subst (λ (y : Object × HomeSlot). IsInside shape c.claim.new.seat.seat.me y.0 y.1 h)
           (λ q. (sym object q, sym same.1 q)) got.inside;
       follows =
           subst (λ (y : Shape × (Object × (List Noted × Noted))). IsHistory y.0 y.1.0 (y.1.1.0 ++ y.1.1.1 ∷ []))

@@ -1,6 +1,6 @@
 use Rattle.std.proofs.Common.{◌*◌, ℕ, ◌/◌, ap, ◌∙◌, arith, lit<}
 use Rattle.std.proofs.Math.Nat.{pow-le-pow_right}
-use Rattle.run_map.specs.declared.runs.Layout.{Layout}
+use Rattle.run_map.specs.declared.runs.RunLayout.{RunLayout}
 use Rattle.run_map.specs.Stored.{stored}
 use Rattle.run_map.proofs.NewMap.{laid-out, whole-run, one-spaced, one-run, one-total, all-free}
 use Rattle.run_map.proofs.map.RunMap.new.Goals as goal
@@ -16,7 +16,7 @@ new-requires c =
 
 pub put-requires-clause-store : goal.put-requires-clause-store
 put-requires-clause-store c =
-    let l : Layout =
+    let l : RunLayout =
     record { page = c.len-bytes.result / c.pow-pages.result; pages = c.pow-pages.result; site = c.of.result } in
     let laid = laid-out l c.args.order c.args.piece c.requires.chunk c.pow-pages.ensures
     (ap (λ (n : ℕ). n / l.pages) c.len-bytes.ensures.len) c.len-bytes.ensures.small in
@@ -24,7 +24,7 @@ put-requires-clause-store c =
 
 pub put-requires-clause-run : goal.put-requires-clause-run
 put-requires-clause-run c =
-    let l : Layout =
+    let l : RunLayout =
     record { page = c.len-bytes.result / c.pow-pages.result; pages = c.pow-pages.result; site = c.of.result } in
     let laid = laid-out l c.args.order c.args.piece c.requires.chunk c.pow-pages.ensures
     (ap (λ (n : ℕ). n / l.pages) c.len-bytes.ensures.len) c.len-bytes.ensures.small in
@@ -37,7 +37,7 @@ put-requires-clause-spaced c =
 
 pub invariant_of-result : goal.invariant_of-result
 invariant_of-result c =
-    let l : Layout =
+    let l : RunLayout =
     record { page = c.len-bytes.result / c.pow-pages.result; pages = c.pow-pages.result; site = c.of.result } in
     let laid = laid-out l c.args.order c.args.piece c.requires.chunk c.pow-pages.ensures
     (ap (λ (n : ℕ). n / l.pages) c.len-bytes.ensures.len) c.len-bytes.ensures.small in
@@ -55,7 +55,7 @@ invariant_of-result c =
 
 pub returns : goal.returns
 returns c =
-    let l : Layout =
+    let l : RunLayout =
     record { page = c.len-bytes.result / c.pow-pages.result; pages = c.pow-pages.result; site = c.of.result } in
     let laid = laid-out l c.args.order c.args.piece c.requires.chunk c.pow-pages.ensures
     (ap (λ (n : ℕ). n / l.pages) c.len-bytes.ensures.len) c.len-bytes.ensures.small in

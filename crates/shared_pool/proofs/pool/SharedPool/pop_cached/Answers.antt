@@ -4,7 +4,7 @@ use Rattle.pool_law.specs.Limits.{IsShape}
 use Rattle.pool_law.specs.Naming.{noted_by}
 use Rattle.pool_law.specs.declared.note.Noted.{Noted}
 use Rattle.pool_law.specs.declared.note.Object.TheVariants.{Cache}
-use Rattle.table_law.specs.Measures.{measures_of}
+use Rattle.history_laws.specs.Measures.{measures_of}
 use Rattle.pool_table.specs.declared.views.Layout.{Layout}
 use Rattle.shared_pool.specs.declared.seat.PoolSeat.{PoolSeat}
 use Rattle.shared_pool.specs.SeatViews.{view_of}

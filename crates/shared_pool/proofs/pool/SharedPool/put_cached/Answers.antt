@@ -4,7 +4,7 @@ use Rattle.step_law.specs.Settings.{Setting}
 use Rattle.pool_law.specs.Places.{IsInPlace}
 use Rattle.pool_law.specs.declared.note.Noted.{Noted}
 use Rattle.pool_law.specs.declared.note.Object.TheVariants.{Cache}
-use Rattle.table_law.specs.Measures.{measures_of}
+use Rattle.history_laws.specs.Measures.{measures_of}
 use Rattle.pool_table.specs.Seats.{view_of}
 use Rattle.shared_pool.specs.declared.seat.PoolSeat.{PoolSeat}
 use Rattle.shared_pool.specs.CacheAnswers.{was_put}

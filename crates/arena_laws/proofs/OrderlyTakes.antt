@@ -1,0 +1,213 @@
+-- An arena is in order at first, and after each taking; a subpage that stands in a list gives an element.
+use Rattle.std.proofs.Common.{◌≡◌, ℕ, zero, suc, ◌*◌, ◌<◌, ◌≤◌, List, [], ◌∷◌, length, refl, sym, ap, subst, arith, true, false, Some, None, ◌∙◌}
+use Rattle.std.specs.Prelude.{slice_get, Option, option_map, option_and_then, replicate, unwrap_or}
+use Rattle.std.proofs.lemmas.Bool.{cond_both}
+use Rattle.std.proofs.lemmas.List.{length-replicate}
+use Rattle.size_classes.specs.Sizes.{Geometry, page_of, class_count, is_small, pages_of, subpage_pages, element_count, IsPage}
+use Rattle.size_classes.specs.Pages.{Free, Used}
+use Rattle.size_classes.specs.Runs.{Begins}
+use Rattle.size_classes.specs.Elements.{Elements, new_elements, next_element}
+use Rattle.size_classes.proofs.Runs.{subpage_pages-least}
+use Rattle.pool_law.specs.declared.id.RegionId.{RegionId}
+use Rattle.pool_law.specs.Chunks.{Chunk, Use, Whole, Sub}
+use Rattle.pool_law.specs.Arenas.{Arena, Spotted, new_arena, chunk_at, run_from, take_run, elements_at, element_taken, take_element, front_of, with_subpage, take_small, take_class, noted_taking, take}
+use Rattle.arena_laws.specs.Slots.{ArenaHolds}
+use Rattle.arena_laws.specs.Orderly.{has_spot, SpotsDiffer, HasRoom, IsOrderly}
+use Rattle.arena_laws.proofs.FrontSteps.{spot-first, front-same}
+use Rattle.arena_laws.proofs.ElementSteps.{next-there, new-has_room}
+use Rattle.arena_laws.proofs.ElementTakes.{elements_at-is, new-subpage, pages_of-pos}
+use Rattle.arena_laws.proofs.ArenaLaw.{new-holds}
+use Rattle.arena_laws.proofs.OrderlyParts.{small-below, orderly-from, orderly-same}
+use Rattle.arena_laws.proofs.UsedSteps.{take_run-by}
+use Rattle.arena_laws.proofs.OrderlySteps.{opened-orderly, with_run-orderly, with_subpage-orderly, element_taken-orderly}
+
+-- ---- at first
+
+no_place : (n c : ℕ) → unwrap_or (slice_get (replicate {A = Option Chunk} n None) c) None ≡ None
+no_place zero c = refl
+no_place (suc n) zero = refl
+no_place (suc n) (suc c) = no_place n c
+
+no_front : (n class : ℕ) → unwrap_or (slice_get (replicate {A = List (ℕ × ℕ)} n []) class) [] ≡ []
+no_front zero class = refl
+no_front (suc n) zero = refl
+no_front (suc n) (suc class) = no_front n class
+
+pub new-orderly : (g : Geometry) (chunks : ℕ) → IsPage g.page → 3 ≤ g.order → IsOrderly g (new_arena g chunks)
+new-orderly g chunks page order =
+    orderly-from g (new_arena g chunks) order holds.sound holds.whole
+    (λ c. ((λ _. no_place chunks c), λ _. refl))
+    (length-replicate (class_count g) [])
+    (λ class c page small. (
+      (λ h. absurd (let both : true ≡ false = sym h
+          ∙ ap (has_spot c page) (no_front (class_count g) class) in cc both)),
+      λ r. absurd (subst (λ x. Begins page (Used r.pages (Sub class r.elements)) x)
+          (ap (λ o. unwrap_or o []) (no_place chunks c)) r.begins),
+    ))
+    (λ class. subst SpotsDiffer (sym (no_front (class_count g) class)) tt)
+  where
+    holds : ArenaHolds g 0 (new_arena g chunks)
+    holds = new-holds g 0 page chunks
+
+-- ---- a subpage that stands in a list
+
+-- the next element of a subpage of a class
+pub record HasNext (a : Arena) (class c page : ℕ) : Type 0 where
+  pub elements : Elements
+  pub here : elements_at a class c page ≡ Some elements
+  pub next : ℕ
+  pub is : next_element elements ≡ Some next
+
+-- a subpage with a free element has a next one
+pub room-next : (a : Arena) (class c page : ℕ) → HasRoom a class c page → HasNext a class c page
+room-next a class c page r = go (next_element r.elements) refl
+  where
+    go : (o : Option ℕ) → next_element r.elements ≡ o → HasNext a class c page
+    go None is = absurd (next-there r.elements r.room is)
+    go (Some k) is = record { elements = r.elements; here = r.here; next = k; is = is }
+
+-- so it gives an element
+pub next-taken : (g : Geometry) (a : Arena) (class : ℕ) (spot : ℕ × ℕ) → (n : HasNext a class spot.0 spot.1)
+    → take_element g a class spot ≡ Some (element_taken g a class spot n.elements n.next)
+next-taken g a class spot n =
+    ap (option_and_then (λ e. option_map (λ k. element_taken g a class spot e k) (next_element e))) n.here
+    ∙ ap (option_map (λ k. element_taken g a class spot n.elements k)) n.is
+
+-- a subpage that stands in the list of a small class has a next element
+pub spot-next : (g : Geometry) (a : Arena) (class c page : ℕ) → IsOrderly g a → is_small g class ≡ true
+    → has_spot c page (front_of a class) ≡ true → HasNext a class c page
+spot-next g a class c page o small listed = room-next a class c page ((o.spotted class c page small).0 listed)
+
+-- above all the front one
+pub front-next : (g : Geometry) (a : Arena) (class : ℕ) (spot : ℕ × ℕ) (spots : List (ℕ × ℕ)) → IsOrderly g a
+    → is_small g class ≡ true → front_of a class ≡ spot ∷ spots →
+    HasNext a class spot.0 spot.1
+front-next g a class spot spots o small front =
+    spot-next g a class spot.0 spot.1 o small (ap (has_spot spot.0 spot.1) front ∙ spot-first spot.0 spot.1 spots)
+
+pub front-gives : (g : Geometry) (a : Arena) (class : ℕ) (spot : ℕ × ℕ) (spots : List (ℕ × ℕ)) → IsOrderly g a
+    → is_small g class ≡ true → front_of a class ≡ spot ∷ spots →
+    take_element g a class spot ≡ None → ⊥
+front-gives g a class spot spots o small front none =
+    let n : HasNext a class spot.0 spot.1 = front-next g a class spot spots o small front in
+    let both : Some (element_taken g a class spot n.elements n.next) ≡ None = sym (next-taken g a class spot n)
+    ∙ none in
+    cc both
+
+-- an element that is taken leaves the arena in order
+pub take_element-orderly : (g : Geometry) (a : Arena) (class : ℕ) (spot : ℕ × ℕ) (t : Spotted) → IsOrderly g a
+    → is_small g class ≡ true → take_element g a class spot ≡ Some t → IsOrderly g t.2
+take_element-orderly g a class spot t o small e =
+    outer (elements_at a class spot.0 spot.1) (λ f. elements_at-is a class spot.0 spot.1 f) e
+  where
+    inner : (f : Elements) (m : ℕ) → Begins spot.1 (Used m (Sub class f)) (chunk_at a spot.0) → (x : Option ℕ)
+        → next_element f ≡ x →
+        option_map (λ k. element_taken g a class spot f k) x ≡ Some t → IsOrderly g t.2
+    inner f m here None next is = absurd (cc is)
+    inner f m here (Some k) next is =
+        let same : element_taken g a class spot f k ≡ t = cc is in
+        subst (λ u. IsOrderly g u.2) same (element_taken-orderly g a o class spot.0 spot.1 m k f small here next)
+
+    outer : (x : Option Elements) → ((f : Elements) → x ≡ Some f
+        → (m : ℕ) × Begins spot.1 (Used m (Sub class f)) (chunk_at a spot.0)) →
+        option_and_then (λ f. option_map (λ k. element_taken g a class spot f k) (next_element f)) x ≡ Some t
+        → IsOrderly g t.2
+    outer None found is = absurd (cc is)
+    outer (Some f) found is =
+        let h : (m : ℕ) × Begins spot.1 (Used m (Sub class f)) (chunk_at a spot.0) = found f refl in
+        inner f h.0 h.1 (next_element f) refl is
+
+-- ---- runs
+
+-- a run that is taken as a whole leaves the arena in order
+pub take_run-orderly : (g : Geometry) (a : Arena) (pages : ℕ) → IsOrderly g a → 0 < pages → (t : Spotted)
+    → take_run g a pages Whole ≡ Some t → IsOrderly g t.2
+take_run-orderly g a pages o some t e =
+    take_run-by g pages Whole (IsOrderly g) (opened-orderly g) (λ u. IsOrderly g u.2)
+    (λ x spot n order here fits. with_run-orderly g x order spot.0 spot.1 n pages here fits some)
+    a o t e
+
+-- what a new subpage of a class is used for
+abbrev pub new_use : Geometry → ℕ → Use
+new_use g class = Sub class (new_elements (element_count g class))
+
+-- so does one that becomes the front subpage of its class
+pub run_from-subpage : (g : Geometry) (a : Arena) (class : ℕ) (spot : ℕ × ℕ) (n : ℕ) → IsOrderly g a
+    → is_small g class ≡ true → Begins spot.1 (Free n) (chunk_at a spot.0) → subpage_pages g class ≤ n →
+    IsOrderly g (with_subpage class (run_from g a (subpage_pages g class) (new_use g class) spot))
+run_from-subpage g a class spot n o small here fits =
+    with_subpage-orderly g a o class spot.0 spot.1 n (subpage_pages g class) (new_elements (element_count g class))
+    small here fits
+    (subpage_pages-least g class) (new-subpage g class) (new-has_room g (o.sound 0).page class small)
+
+pub take_subpage-orderly : (g : Geometry) (a : Arena) (class : ℕ) → IsOrderly g a → is_small g class ≡ true
+    → (t : Spotted) → take_run g a (subpage_pages g class) (new_use g class) ≡ Some t →
+    IsOrderly g (with_subpage class t)
+take_subpage-orderly g a class o small t e =
+    take_run-by g (subpage_pages g class) (new_use g class) (IsOrderly g) (opened-orderly g)
+    (λ u. IsOrderly g (with_subpage class u))
+    (λ x spot n order here fits. run_from-subpage g x class spot n order small here fits)
+    a o t e
+
+-- the lists of an arena that gave a run are as many as before
+pub take_run-fronts : (g : Geometry) (a : Arena) (pages : ℕ) (what : Use) → IsOrderly g a → (t : Spotted)
+    → take_run g a pages what ≡ Some t → length t.2.fronts ≡ class_count g
+take_run-fronts g a pages what o t e =
+    take_run-by g pages what (IsOrderly g) (opened-orderly g) (λ u. length u.2.fronts ≡ class_count g)
+    (λ x spot n order here fits. order.fronts) a o t e
+
+-- a new subpage gives an element
+pub new-gives : (g : Geometry) (a : Arena) (class : ℕ) → IsOrderly g a → is_small g class ≡ true → (t : Spotted)
+    → take_run g a (subpage_pages g class) (new_use g class) ≡ Some t →
+    take_element g (with_subpage class t) class (t.0, t.1) ≡ None → ⊥
+new-gives g a class o small t e =
+    let b : IsOrderly g (with_subpage class t) = take_subpage-orderly g a class o small t e in
+    let fronts : length t.2.fronts ≡ class_count g =
+    take_run-fronts g a (subpage_pages g class) (new_use g class) o t e in
+    let below : class < length t.2.fronts = omega (arith, small-below g a class o small, fronts, o.fronts) in
+    front-gives g (with_subpage class t) class (t.0, t.1) (front_of t.2 class) b small
+    (front-same t.2 class ((t.0, t.1) ∷ front_of t.2 class) below)
+
+-- ---- a class, and a taking
+
+pub take_small-orderly : (g : Geometry) (a : Arena) (class : ℕ) → IsOrderly g a → is_small g class ≡ true
+    → (spots : List (ℕ × ℕ)) (t : Spotted) → take_small g a class spots ≡ Some t → IsOrderly g t.2
+take_small-orderly g a class o small (spot ∷ spots) t e = take_element-orderly g a class spot t o small e
+take_small-orderly g a class o small [] t e =
+    go (take_run g a (subpage_pages g class) (new_use g class)) (λ u. take_subpage-orderly g a class o small u) e
+  where
+    go : (x : Option Spotted) → ((u : Spotted) → x ≡ Some u → IsOrderly g (with_subpage class u))
+        → option_and_then (λ u. take_element g (with_subpage class u) class (u.0, u.1)) x ≡ Some t → IsOrderly g t.2
+    go None order is = absurd (cc is)
+    go (Some u) order is = take_element-orderly g (with_subpage class u) class (u.0, u.1) t (order u refl) small is
+
+pub take_class-orderly : (g : Geometry) (a : Arena) (class : ℕ) → IsOrderly g a → (t : Spotted)
+    → take_class g a class ≡ Some t → IsOrderly g t.2
+take_class-orderly g a class o t e =
+    cond_both (is_small g class) (take_small g a class (front_of a class))
+    (option_map (λ u. (u.0, page_of g * u.1, u.2)) (take_run g a (pages_of g class) Whole))
+    (λ x. x ≡ Some t → IsOrderly g t.2)
+    (λ small is. take_small-orderly g a class o small (front_of a class) t is)
+    (λ _ is. go (take_run g a (pages_of g class) Whole)
+    (λ u. take_run-orderly g a (pages_of g class) o (pages_of-pos g 0 class (o.sound 0).page) u) is)
+    e
+  where
+    go : (x : Option Spotted) → ((u : Spotted) → x ≡ Some u → IsOrderly g u.2)
+        → option_map (λ u. (u.0, page_of g * u.1, u.2)) x ≡ Some t → IsOrderly g t.2
+    go None order is = absurd (cc is)
+    go (Some u) order is =
+        let same : (u.0, page_of g * u.1, u.2) ≡ t = cc is in
+        subst (λ x. IsOrderly g x.2) same (order u refl)
+
+-- a taking leaves the arena in order
+pub take-orderly : (g : Geometry) (number : ℕ) (a : Arena) (class owner : ℕ) → IsOrderly g a → (t : RegionId × Arena)
+    → take g number a class owner ≡ Some t → IsOrderly g t.1
+take-orderly g number a class owner o t e = go (take_class g a class) (λ u. take_class-orderly g a class o u) e
+  where
+    go : (x : Option Spotted) → ((u : Spotted) → x ≡ Some u → IsOrderly g u.2)
+        → option_map (noted_taking number class owner) x ≡ Some t → IsOrderly g t.1
+    go None order is = absurd (cc is)
+    go (Some u) order is =
+        let same : noted_taking number class owner u ≡ t = cc is in
+        subst (λ x. IsOrderly g x.1) same
+        (orderly-same g u.2 (noted_taking number class owner u).1 refl refl refl (order u refl))

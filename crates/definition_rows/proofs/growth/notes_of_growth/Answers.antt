@@ -1,0 +1,8 @@
+-- The text computes, once the digits of a number do.
+use Rattle.std.proofs.Common.{refl}
+use Rattle.std.specs.Fmt.{digits}
+use Rattle.definition_rows.proofs.growth.notes_of_growth.Goals as goal
+
+pub returns : goal.returns
+unfolding digits
+returns c = record { text = refl }

@@ -1,0 +1,17 @@
+-- The run and its text are computed.
+use Rattle.std.proofs.Common.{refl}
+use Rattle.std.specs.Fmt.{digits}
+use Rattle.definition_rows.specs.RootRuns.{nothing}
+use Rattle.definition_rows.proofs.LegalComputed.{legal}
+use Rattle.definition_rows.proofs.runs.nothing_run.Goals as goal
+
+pub returns-clause-legal : goal.returns-clause-legal
+returns-clause-legal c = legal nothing refl
+
+pub returns-clause-text : goal.returns-clause-text
+unfolding digits
+returns-clause-text c = refl
+
+pub returns-clause-history : goal.returns-clause-history
+unfolding digits
+returns-clause-history c = refl

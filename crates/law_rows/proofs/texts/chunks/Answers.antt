@@ -1,8 +1,0 @@
--- The text computes, once the digits of a number do.
-use Rattle.std.proofs.Common.{refl}
-use Rattle.std.specs.Fmt.{digits}
-use Rattle.law_rows.proofs.texts.chunks.Goals as goal
-
-pub returns-clause-text : goal.returns-clause-text
-unfolding digits
-returns-clause-text c = refl
