@@ -99,7 +99,7 @@ module _ {H : Type 0} (stands : List ℕ → Setting → List Noted → H → Ty
 
   -- the seat as it is once the home value is back in the slot
   pub dones_as : (l key : Layout) (o : Object) (slots : ℕ) (slot : HomeSlot) (id id' : ℕ) (me me' : Me (Option H)
-    SeatView)
+      SeatView)
       (h : List Noted) (home : H) (note : Noted) → key ≡ l → slots ≡ slots_of l.shape → IsInside l.shape me o slot h
       → id' ≡ id → me' ≡ (me.0, (slot.home, Some home) ∷ [])
       → 0 < me.0.turns → MayNote l.shape me.0.own.number o note.did → PutsDown me.0 note.did
@@ -117,7 +117,7 @@ module _ {H : Type 0} (stands : List ℕ → Setting → List Noted → H → Ty
       inside.slot_is inside.inside refl turn may hands accepted stands_for))
 
   pub idles_as : (l key : Layout) (o : Object) (slots : ℕ) (slot : HomeSlot) (id id' : ℕ) (me me' : Me (Option H)
-    SeatView)
+      SeatView)
       (h : List Noted) (home : H) → key ≡ l → slots ≡ slots_of l.shape → IsInside l.shape me o slot h → id' ≡ id
       → me' ≡ (me.0, (slot.home, Some home) ∷ [])
       → MayLeave me.0 o → StandsFor stands (measures_of l.shape o) me.0 h home

@@ -56,7 +56,7 @@ use Rattle.pool_table.proofs.RegionNotes.{Among, object_notes}
 use Rattle.pool_table.proofs.Tidings.{given_less, known_given, below_max}
 
 -- a root that is told is this one
-told_root : (r : RootId) (o : Option RootId) → root_is r o ≡ true → o ≡ Some r
+pub told_root : (r : RootId) (o : Option RootId) → root_is r o ≡ true → o ≡ Some r
 told_root r None is = absurd (cc is)
 told_root r (Some q) is = ap (λ (z : RootId). Some z) (same_root-is q r is)
 
@@ -88,7 +88,7 @@ born_given views r born =
     gift (Busy b) = omega arith
 
 -- an object of the shape is no mail: nothing is posted or fetched there
-no_mail : (s : Shape) (o : Object) (lane : Option ℕ) (q : Parcel) → IsObjectOf s o
+pub no_mail : (s : Shape) (o : Object) (lane : Option ℕ) (q : Parcel) → IsObjectOf s o
     → (MayNote s lane o (Post q) → ⊥) × (MayNote s lane o (Fetch q) → ⊥)
 no_mail s (Arena a) (Some j) q fits = (λ may. cc may, λ may. cc may)
 no_mail s (Cache d c) (Some j) q fits = (λ may. cc may, λ may. cc may)
@@ -106,7 +106,7 @@ module _ {H : Type 0} (stands : List ℕ → Setting → List Noted → H → Ty
 
   -- ---- A gift is a note of the root's place.
 
-  at_root : (r : RootId) (o : Object) (n : Noted) → IsPlain o n → root_is r n.root ≡ true → o ≡ Root r.place
+  pub at_root : (r : RootId) (o : Object) (n : Noted) → IsPlain o n → root_is r n.root ≡ true → o ≡ Root r.place
   at_root r o n plain is = by o plain (told_root r n.root is)
     where
       by : (o : Object) → IsPlain o n → n.root ≡ Some r → o ≡ Root r.place

@@ -1,8 +1,7 @@
 -- A claim keeps the rule.
 use Rattle.step_law.specs.Settings.{Setting}
 use Rattle.std.proofs.Common.{◌≡◌, ◌≢◌, ℕ, ◌+◌, ◌-◌, ◌*◌, ◌/◌, ◌%◌, ◌<◌, ◌≤◌, List, map, length, set, Bool, true, false, cond, eqb, sym, refl, ap, ◌∙◌, subst, arith, length-set, le_refl}
-use Rattle.std.specs.Prelude.{Option, Some, None, IfSome, All, slice_index, bit_or}
-use Rattle.std.proofs.lemmas.List.Elements.{All-head}
+use Rattle.std.specs.Prelude.{Option, Some, None, IfSome, slice_index, bit_or}
 use Rattle.std.proofs.lemmas.List.{set-get_or}
 use Rattle.std.proofs.lemmas.Bool.{eqb-true}
 use mathlib.Core.Logic.{dite}
@@ -37,11 +36,13 @@ use Rattle.pool_table.proofs.Weights.{same_parts, counted_parts, settled_same, h
 use Rattle.pool_table.proofs.Looks.{looks_same}
 use Rattle.pool_table.proofs.Births.{born_same}
 use Rattle.pool_table.proofs.Tidings.{known_same}
+use Rattle.pool_table.proofs.LoneBytes.{told_own}
+use Rattle.pool_table.proofs.Lone.{lone_same}
 use Rattle.pool_table.proofs.Exact.{counted_of, vacated_of}
 use Rattle.pool_table.proofs.Order.{order_same}
 use Rattle.pool_table.proofs.Sequence.{one_same}
 use Rattle.pool_table.proofs.Numbers.{next_above, last_not_below}
-use Rattle.pool_table.specs.Sound.{IsKept, IsSound, IsView, IsTold, Knows, WasHeld}
+use Rattle.pool_table.specs.Sound.{IsKept, IsSound, IsView, Knows, WasHeld}
 use Rattle.pool_table.specs.Steps.{IsFree}
 use Rattle.pool_table.specs.Steps.{GotIn, claims}
 use Rattle.pool_table.proofs.Objects.{claimed_kept}
@@ -70,21 +71,6 @@ module _ {H : Type 0} (stands : List ℕ → Setting → List Noted → H → Ty
   fitting y x e f = subst (λ (y : Option Inside). IfSome y (λ (x : Inside). IsObjectOf l.shape x.object)) e f
 
   -- the history tells the entries of a view's own part
-  told_own : (s : State (Option H) SeatView) (r : IsSound stands l s) (id : ℕ) (v : SeatView) (o : Object)
-      (fits : IsObjectOf l.shape o) → get_elem? s.views id ≡ some v
-      → let i = home_of l.shape o in let h = (r.objects o fits).history in
-      IsTold o h (length h + (inside_total (map (object_view l.shape i) s.views) - is_in (object_view l.shape i v)))
-      (object_part l.shape i v.own)
-  told_own s r id v o fits at =
-      let i : ℕ = home_of l.shape o in let k = r.objects o fits in let h : List Noted = k.history in
-      let t : ℕ = inside_total (map (object_view l.shape i) s.views) in let limit : ObjectView
-      → ℕ = λ (f : ObjectView). length h + (t - is_in f) in
-      All-head (IsTold o h (limit (object_view l.shape i v))) (object_part l.shape i v.own)
-      (map (object_part l.shape i) v.others)
-      (each_at (λ (f : ObjectView). All (IsTold o h (limit f)) f.parts) (map (object_view l.shape i) s.views) id
-      (object_view l.shape i v)
-      k.told (at_map (object_view l.shape i) s.views id v at))
-
   -- some other view is in the section
   pub was_held : (s : State (Option H) SeatView) (r : IsSound stands l s) (id : ℕ) (v : SeatView) (o : Object)
       (fits : IsObjectOf l.shape o) → get_elem? s.views id ≡ some v → v.inside ≡ None
@@ -126,7 +112,7 @@ module _ {H : Type 0} (stands : List ℕ → Setting → List Noted → H → Ty
         seen =
             last_not_below l.shape o k.history (length k.history + (t - is_in (object_view l.shape i v)))
             v.own.number (let n : ℕ = length k.history in let z : ℕ = is_in (object_view l.shape i v) in
-            omega (arith, one')) v.own.notes (told_own s r id v o fits at).told;
+            omega (arith, one')) v.own.notes (told_own stands l s r id v o fits at).told;
       }
 
   pub half : (word n t : ℕ) → t ≡ 1 → word ≡ 2 * n + t → word / 2 ≡ n
@@ -183,7 +169,7 @@ module _ {H : Type 0} (stands : List ℕ → Setting → List Noted → H → Ty
       let wf : object_view l.shape i w ≡ record { parts = map (object_part l.shape i) (parts_of v); inside = Some x } =
       inside_object_view stands l i w x refl refl in
       let there = at_map (object_view l.shape i) s.views id v at in
-      let told = told_own s r id v o fits at in let last : n + (t - is_in (object_view l.shape i v)) ≤ n =
+      let told = told_own stands l s r id v o fits at in let last : n + (t - is_in (object_view l.shape i v)) ≤ n =
       omega (arith, z) in
       let kept = claimed_kept stands l.shape r.setting o (map (object_view l.shape i) s.views) word
       (get_elem? s.homes d)
@@ -227,6 +213,7 @@ module _ {H : Type 0} (stands : List ℕ → Setting → List Noted → H → Ty
             (one_same l.shape s.views id v w at refl r.one_order)
             (born_same s.views id v w at refl r.born)
             (known_same s.views id v w at refl r.known)
+            (lone_same s.views id v w at refl r.lone)
             (mailed_same s.views id v w at refl refl r.mailed)
             (length-set s.homes d none) (λ j ne. set_else
             s.homes d j none ne) kept',

@@ -32,6 +32,7 @@ use Rattle.pool_table.specs.Steps.{retains, looks, releases, vacates}
 use Rattle.pool_table.proofs.AtPlace.{TokenAt}
 use Rattle.pool_table.proofs.Counts.{weigh_ref, retained_kept, looked_kept, released_kept, ended_kept, vacated_kept}
 use Rattle.pool_table.proofs.Weights.{weigh_none, strict_sum}
+use Rattle.pool_table.proofs.Lone.{count_names, token_names}
 use Rattle.pool_table.proofs.WordChanges.{live_word, small_count, ref_changes, look_right, awake_count}
 use Rattle.pool_table.proofs.CountedViews.{counted_more, counted_less, settled_more, handy_more, orderly_more, settled_less, orderly_vacated}
 
@@ -131,7 +132,7 @@ module _ {H : Type 0} (stands : List ℕ → Setting → List Noted → H → Ty
               (orderly_more stands l v root Retain (v.moves - 1) fine.roots refl refl) (λ k e. absurd (cc e))
               (subst (IsCounted p (set s.views id (with_ref v root Retain (v.moves - 1)))) (sym up)
               (retained_kept p s.views id v root (v.moves - 1) at refl word k live.0 live.1)) born
-              (k.count, live.1, left_here stands l s r r.one_order root lt live.0),
+              (k.count, live.1, left_here stands l s r r.one_order root lt live.0) (count_names root v counts),
           refl,
         )
 
@@ -165,7 +166,7 @@ module _ {H : Type 0} (stands : List ℕ → Setting → List Noted → H → Ty
               (subst (λ (y : ℕ). (0 < y) × Leave r.one_order.made root y)
               (let low = low_part word k.generation k.count k.vacant k.word_is (small_count stands l s r p lt)
               (k.live live.1) in let e : k.count ≡ word % 4294967296 / 2 = omega (arith, low) in e)
-              (live.1, left_here stands l s r r.one_order root lt live.0)),
+              (live.1, left_here stands l s r r.one_order root lt live.0)) (count_names root v counts),
           refl,
         )
 
@@ -198,7 +199,7 @@ module _ {H : Type 0} (stands : List ℕ → Setting → List Noted → H → Ty
               (orderly_more stands l v root Ended v.moves fine.roots refl refl) (λ k e. absurd (cc e))
               (ended_kept p s.views id v root v.moves at refl rest kd live.0 last) born
               (subst (Leave r.one_order.made root) last
-              (left_here stands l s r r.one_order root lt live.0)),
+              (left_here stands l s r r.one_order root lt live.0)) (count_names root v counts),
           (
             (λ _. let e = ended_here s r id v root v.moves lt at counts in (refl, e.0, e.1)),
             (λ ne. absurd (ne (let g : word % 4294967296 ≡ 2 = omega (arith, low, last) in g))),
@@ -219,7 +220,7 @@ module _ {H : Type 0} (stands : List ℕ → Setting → List Noted → H → Ty
                 c,
                 (let q : c ≢ 1 = more in let g : 1 < c = omega (arith, q, c1) in g),
                 left_here stands l s r r.one_order root lt live.0,
-              ),
+              ) (count_names root v counts),
           (
             (λ two. absurd (more (let low' : word % 4294967296 ≡ 2 * c = low in let two' : word % 4294967296
                 ≡ 2 = two in let g : c ≡ 1 = omega (arith, low', two') in g))),
@@ -305,7 +306,7 @@ module _ {H : Type 0} (stands : List ℕ → Setting → List Noted → H → Ty
             (λ k e. absurd (cc e)) (subst (IsCounted p (set s.views id (with_ref v root Vacated v.moves)))
             (sym up) (vacated_kept p s.views id v root v.moves at refl word k tok.0 tok.1 tok.2 tok.3))
             (token_born stands l s r id v at root token)
-            (vacated_fits stands l s r r.one_order root lt tok.0 tok.1 tok.2 tok.3),
+            (vacated_fits stands l s r r.one_order root lt tok.0 tok.1 tok.2 tok.3) (token_names root v token),
         (refl, hand_after v root v.moves (fine.handy p)),
       )
     where

@@ -38,6 +38,7 @@ use Rattle.pool_table.specs.Births.{IsBorn}
 use Rattle.pool_table.proofs.Exact.{counted_of}
 use Rattle.pool_table.proofs.Fitting.{born_fits}
 use Rattle.pool_table.proofs.CountSteps.{own_step}
+use Rattle.pool_table.proofs.Lone.{bearer_names}
 use Rattle.pool_table.proofs.WordChanges.{ref_changes}
 use Rattle.pool_table.proofs.CountedViews.{counted_more, settled_more, handy_less, orderly_born, exact_le}
 
@@ -263,7 +264,8 @@ module _ {H : Type 0} (stands : List ℕ → Setting → List Noted → H → Ty
             let g : 0 < sum_by (weigh (at_birth_as p r'.generation root.capacity)) s.views =
             omega (arith, some_noted, le) in
             g)
-            (born_fits stands l s r r.one_order r' lt gen vac),
+            (born_fits stands l s r r.one_order r' lt gen vac)
+            (bearer_names r' v (subst (λ (g : ℕ). 0 < weigh (at_birth_as p g root.capacity) v) (this ∙ sym gen) noted)),
         (
           (let a : word / 4294967296 ≡ k.generation = nx.1 in let g : word / 4294967296 + 1 < 4294967296 =
               subst (λ (n : ℕ). n + 1 < 4294967296) (sym a) fits in g),

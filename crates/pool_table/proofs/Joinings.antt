@@ -29,6 +29,7 @@ use Rattle.pool_table.proofs.Order.{order_regroups}
 use Rattle.pool_table.proofs.Sequence.{one_regroups}
 use Rattle.pool_table.proofs.Births.{born_regroups}
 use Rattle.pool_table.proofs.Tidings.{known_regroups}
+use Rattle.pool_table.proofs.Lone.{lone_joined}
 use Rattle.pool_table.specs.declared.views.Letter.{Letter}
 use Rattle.pool_table.proofs.Mails.{lying, mailed_regroups}
 use Rattle.pool_table.specs.Sound.{IsKept, IsSound, IsView, Stands, OnceBelow}
@@ -82,8 +83,9 @@ module _ {H : Type 0} (stands : List ℕ → Setting → List Noted → H → Ty
       → ((f : Letter → ℕ) → lying f b + lying f z ≡ lying f v + lying f w)
       → (IsView l.shape r.setting v → IsView l.shape r.setting w
       → IsView l.shape r.setting b × IsView l.shape r.setting z)
+      → b.own ≡ v.own → z.own.notes ≡ []
       → IsSound stands l (record { words = s.words; homes = s.homes; views = set (set s.views id b) other z })
-  brought_together s r id other v w b z at ne at' vo wo bo zo adds shares turns moves letters fine =
+  brought_together s r id other v w b z at ne at' vo wo bo zo adds shares turns moves letters fine own none =
       let before : get_elem? s.views other ≡ some w = sym (set_else s.views id other b ne) ∙ at' in
       let fv : IsView l.shape r.setting v = each_at (IsView l.shape r.setting) s.views id v r.views at in
       let fw : IsView l.shape r.setting w = each_at (IsView l.shape r.setting) s.views other w r.views before in
@@ -171,6 +173,9 @@ module _ {H : Type 0} (stands : List ℕ → Setting → List Noted → H → Ty
         known =
             known_regroups s.views (set (set s.views id b) other z)
             (λ f. same (weigh f) (adds (λ (q : Part). sum_by f q.notes) refl)) regroups r.known;
+        lone =
+            lone_joined s.views id other v b z at
+            (λ f. same (weigh f) (adds (λ (q : Part). sum_by f q.notes) refl)) own none r.lone;
         looks =
             looks_regroup s.views (set (set s.views id b) other z)
             (λ p g. same (weigh (on_root ref_retain p g))
@@ -223,7 +228,7 @@ module _ {H : Type 0} (stands : List ℕ → Setting → List Noted → H → Ty
       (let t : ℕ = v.turns in let u : ℕ = w.turns in let g : t + u + 0 ≡ t + u = omega arith in g)
       (let t : ℕ = v.moves in let u : ℕ = w.moves in let g : t + u + 0 ≡ t + u = omega arith in g)
       (λ f. let a = sum_by-append f v.letters w.letters in omega (arith, a))
-      (λ fv fw. (joined_view r.setting fv fw, blank_view r.setting))
+      (λ fv fw. (joined_view r.setting fv fw, blank_view r.setting)) refl refl
     where
       both : (f : Entry → ℕ) → weigh f (joined v w) ≡ weigh f v + weigh f w
       both f = sum_by-append (λ (p : Part). sum_by f p.notes) (parts_of v) (parts_of w)
@@ -345,4 +350,4 @@ module _ {H : Type 0} (stands : List ℕ → Setting → List Noted → H → Ty
           notes = fv.notes;
         },
         blank_view r.setting,
-      ))
+      )) refl refl

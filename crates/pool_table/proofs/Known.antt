@@ -42,7 +42,7 @@ known s (Mail a b) fits = absurd fits
 known s (Root p) fits = fits
 
 -- what a place gives as the root of a note is present there
-root_beside-is : (b : Beside) (o : Option Present) (r : RootId) → root_beside b o ≡ Some r
+pub root_beside-is : (b : Beside) (o : Option Present) (r : RootId) → root_beside b o ≡ Some r
     → (q : Present) × (o ≡ Some q) × (q.root ≡ r)
 root_beside-is ItsRoot (Some q) r is = (q, refl, cc is)
 root_beside-is ItsRootAndRegion (Some q) r is = (q, refl, cc is)

@@ -25,6 +25,7 @@ use Rattle.pool_table.proofs.Weights.{same_parts, counted_parts, settled_same, h
 use Rattle.pool_table.proofs.Looks.{looks_same}
 use Rattle.pool_table.proofs.Births.{born_same}
 use Rattle.pool_table.proofs.Tidings.{known_same}
+use Rattle.pool_table.proofs.Lone.{lone_same}
 use Rattle.pool_table.proofs.Order.{order_same}
 use Rattle.pool_table.proofs.Sequence.{one_same}
 use Rattle.pool_table.specs.Sound.{IsKept, IsSound, IsView}
@@ -108,6 +109,7 @@ module _ {H : Type 0} (stands : List ℕ → Setting → List Noted → H → Ty
             (le_refl (spent v)) (looks_same s.views id v w at refl r.looks) (order_same s.views id v w at refl r.order)
             (one_same l.shape s.views id v w at refl r.one_order) (born_same s.views id v w at refl r.born)
             (known_same s.views id v w at refl r.known)
+            (lone_same s.views id v w at refl r.lone)
             (mailed_same s.views id v w at refl refl r.mailed)
             (length-set s.homes d (some (Some home))) (λ j ne. set_else s.homes d j (some (Some home)) ne)
             (subst (λ (y : ℕ × maybe.Option (maybe.Option (Option H))). IsKept stands l.shape r.setting o

@@ -45,6 +45,8 @@ pub mod Starts
 pub mod Partition
 pub mod Beyond
 pub mod RootEntries
+pub mod Lone
+pub mod LoneLaws
 pub mod Exact
 pub mod Putting
 pub mod Transit
@@ -64,8 +66,10 @@ pub mod After
 pub mod LaneCounts
 pub mod Places
 pub mod PlaceSums
+pub mod LoneBytes
+pub mod Unborn
 pub mod Presence
+pub mod Bearing
+pub mod LoneNotes
 pub mod RootCalls
 pub mod Turns
-mod Trials
-mod FirstRoot

@@ -30,6 +30,7 @@ use Rattle.pool_table.proofs.Weights.{IsWeighedSame, same_entry, counted_entry, 
 use Rattle.pool_table.proofs.Looks.{looks_entry}
 use Rattle.pool_table.proofs.Births.{born_entry}
 use Rattle.pool_table.proofs.Tidings.{known_entry}
+use Rattle.pool_table.proofs.Lone.{lone_entry, names_none}
 use Rattle.pool_table.proofs.Order.{newest, order_entry}
 use Rattle.pool_table.proofs.Sequence.{one_more}
 use Rattle.pool_table.proofs.Fitting.{noted_so_far}
@@ -141,6 +142,7 @@ module _ {H : Type 0} (stands : List ℕ → Setting → List Noted → H → Ty
       (bn ∙ noted_so_far stands l s r r.one_order o fits))
       (born_entry s.views id v w e at refl (λ q is. absurd (cc is)) r.born)
       (known_entry s.views id v w e at refl (λ q lt. absurd (omega (arith, lt))) r.known)
+      (lone_entry s.views id v w e at refl (names_none s.views v e (λ q. refl)) r.lone)
       (mailed_entry s.views id v w e at refl refl refl refl r.mailed)
       refl (λ j ne. refl)
       (subst (λ (y : ObjectView × ℕ). IsKept stands l.shape r.setting o

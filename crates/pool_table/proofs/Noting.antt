@@ -48,6 +48,8 @@ use Rattle.pool_table.proofs.Births.{born_entry}
 use Rattle.pool_table.proofs.Capacities.{note_tells}
 use Rattle.pool_table.proofs.Lasting.{entry_grows, entry_counts}
 use Rattle.pool_table.proofs.Tidings.{known_entry}
+use Rattle.pool_table.proofs.Lone.{lone_entry}
+use Rattle.pool_table.proofs.LoneNotes.{may_note}
 use Rattle.pool_table.proofs.Putting.{puts_at, note_born}
 use Rattle.pool_table.proofs.Order.{IsNewest, order_entry}
 use Rattle.pool_table.proofs.Sequence.{one_more}
@@ -279,6 +281,9 @@ module _ {H : Type 0} (stands : List ℕ → Setting → List Noted → H → Ty
             (note_tells stands l s r (set s.views id w) o fits (length h + 1) v.own.number nd
             (entry_grows s.views id v w ent at refl) (entry_counts s.views id v w ent at refl) may
             (subst (λ (g : List Noted). IsHistory l.shape o (g ++ nd ∷ [])) hk accepted)) r.known)
+            (lone_entry s.views id v w ent at refl
+            (may_note stands l s r id v o fits x (length h + 1) nd at e refl may hands
+            (subst (λ (g : List Noted). IsHistory l.shape o (g ++ nd ∷ [])) hk accepted)) r.lone)
             (mailed_entry s.views id v w ent at refl refl (none_in l.shape o fits (length h + 1) (passing nd.did))
             (none_out l.shape o fits (length h + 1) (passing nd.did)) r.mailed)
             (length-set s.homes d (some (Some home))) (λ j ne. set_else s.homes d j (some (Some home)) ne) kept',

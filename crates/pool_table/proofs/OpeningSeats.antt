@@ -32,6 +32,7 @@ use Rattle.pool_table.proofs.Order.{order_opens}
 use Rattle.pool_table.proofs.Sequence.{one_opens}
 use Rattle.pool_table.proofs.Births.{born_opens}
 use Rattle.pool_table.proofs.Tidings.{known_opens}
+use Rattle.pool_table.proofs.Lone.{lone_opens}
 use Rattle.pool_table.specs.Sound.{IsKept, IsSound, IsView, IsTold, IsIdle, IsTableShape, Stands, Knows, OnceBelow}
 use Rattle.pool_table.specs.Steps.{lane_parts, first_view, rest_view, lane_view, first_lane, rest_of_lanes}
 use Rattle.pool_table.proofs.Mails.{lying, mailed_opens}
@@ -186,6 +187,7 @@ module _ {H : Type 0} (stands : List ℕ → Setting → List Noted → H → Ty
             (opens_at gs homes o here.0 fits here.1 here.2);
         born = born_opens (first_view l gs) (all_parts gs);
         known = known_opens (first_view l gs) (all_parts gs);
+        lone = lone_opens (first_view l gs) refl;
         looks = looks_open (first_view l gs) (all_parts gs);
         order = order_opens (first_view l gs) (all_parts gs);
         one_order =
@@ -371,4 +373,4 @@ module _ {H : Type 0} (stands : List ℕ → Setting → List Noted → H → Ty
               (All-cons (λ (p : Part). p.notes ≡ []) (empty_part (Some i)) [] refl
               (All-nil (λ (p : Part). p.notes ≡ [])));
         },
-      )))
+      )) refl refl)

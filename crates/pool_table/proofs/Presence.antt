@@ -39,6 +39,9 @@ use Rattle.pool_table.specs.Learned.{TellsRoot}
 use Rattle.pool_table.proofs.AtPlace.{CountsAt, IsPresentIn, TokenAt}
 use Rattle.pool_table.proofs.Capacities.{knows_no_more}
 use Rattle.pool_table.proofs.Exact.{root_notes, one_born, present_born, count_at, count_born, token_at, token_born, ends_at}
+use Rattle.pool_table.specs.Lone.{names, own_bytes}
+use Rattle.pool_table.proofs.LoneBytes.{lone_bytes}
+use Rattle.pool_table.proofs.Unborn.{unnamed}
 use Rattle.pool_table.proofs.Weights.{strict_sum}
 use Rattle.pool_table.proofs.WordChanges.{live_word}
 use Rattle.pool_table.proofs.CountSteps.{token_word}
@@ -63,8 +66,9 @@ module _ {H : Type 0} (stands : List ℕ → Setting → List Noted → H → Ty
       one (Some r) is = let f = (place_ends s p h x t after).fits r is in (r, root_is p h x after ∙ is, f.0, f.1 ∙ same)
 
   -- the births of a place's history
-  history_births : (s : St) (r : IsSound stands l s) (p : ℕ) (lt : p < l.shape.lanes * l.shape.handles) (x : RootPlace)
-      → IsPlaceAfter p (r.objects (Root p) lt).history x → sum_by (weigh (at_birth p)) s.views ≡ x.generation
+  pub history_births : (s : St) (r : IsSound stands l s) (p : ℕ) (lt : p < l.shape.lanes * l.shape.handles)
+      (x : RootPlace) → IsPlaceAfter p (r.objects (Root p) lt).history x
+      → sum_by (weigh (at_birth p)) s.views ≡ x.generation
   history_births s r p lt x after =
       births_in stands l s r p lt
       ∙ place_births l.shape p (r.objects (Root p) lt).history x (r.objects (Root p) lt).accepted
@@ -240,6 +244,17 @@ module _ {H : Type 0} (stands : List ℕ → Setting → List Noted → H → Ty
             (let c = subst (λ (n : ℕ). CountsAt n q.generation v) here (count_at stands l s r id v at q has) in
             exactly s r p lt q here (count_born stands l s r id v at q has)
             (counted_root s r id p q.generation v lt at c)));
+        lone =
+            λ q lane here number lone.
+            subst (λ (p : ℕ). (lt : IsObjectOf l.shape (Root p)) (x : RootPlace) (w : Present)
+            → IsPlaceAfter p (r.objects (Root p) lt).history x → x.present ≡ Some w → w.root ≡ q
+            → w.bytes ≡ own_bytes q v) here
+            (λ lt. lone_bytes stands l s r id v at q lt lane number lone) lt;
+        unnamed =
+            λ q here. subst (λ (p : ℕ). (lt : IsObjectOf l.shape (Root p)) (x : RootPlace)
+            → IsPlaceAfter p (r.objects (Root p) lt).history x → x.generation < q.generation
+            → sum_by (names q) v.own.notes ≡ 0) here
+            (λ lt. unnamed stands l s r id v at q lt) lt;
       }) fits
 
   -- a view that may note a birth has none that waits

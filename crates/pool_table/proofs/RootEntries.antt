@@ -93,7 +93,7 @@ posts_alone r (Ref q d) one = refl
 posts_alone r (Busy b) one = refl
 
 -- an entry that weighs something for a root names it
-named_this : (q r : RootId) (w : ℕ) → 0 < cond {A = ℕ} (same_root q r) w 0 → q ≡ r
+pub named_this : (q r : RootId) (w : ℕ) → 0 < cond {A = ℕ} (same_root q r) w 0 → q ≡ r
 named_this q r w lt =
     ⊎_elim (λ (t : (same_root q r ≡ true) × (q ≡ r)). t.1)
     (λ (e : same_root q r ≡ false). let z : cond {A = ℕ} (same_root q r) w 0
@@ -104,7 +104,7 @@ step_names f r (At o k n) lt = absurd (omega (arith, lt))
 step_names f r (Ref q d) lt = ap (λ (x : RootId). Some x) (named_this q r (f d) lt)
 step_names f r (Busy b) lt = absurd (omega (arith, lt))
 
-view_names : (r : RootId) (v : Option ViewData) → 0 < view_of_root r v
+pub view_names : (r : RootId) (v : Option ViewData) → 0 < view_of_root r v
     → option_map (λ (w : ViewData). w.root) v ≡ Some r
 view_names r None lt = absurd (omega (arith, lt))
 view_names r (Some v) lt = ap (λ (x : RootId). Some x) (named_this v.root r 1 lt)

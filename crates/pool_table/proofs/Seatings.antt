@@ -26,6 +26,7 @@ use Rattle.pool_table.proofs.Order.{order_regroups}
 use Rattle.pool_table.proofs.Sequence.{one_regroups}
 use Rattle.pool_table.proofs.Births.{born_regroups}
 use Rattle.pool_table.proofs.Tidings.{known_regroups}
+use Rattle.pool_table.proofs.Lone.{lone_cut}
 use Rattle.pool_table.specs.declared.views.Letter.{Letter}
 use Rattle.pool_table.proofs.Mails.{lying, mailed_regroups}
 use Rattle.pool_table.specs.Sound.{IsKept, IsSound, IsView, Stands, OnceBelow}
@@ -46,8 +47,9 @@ module _ {H : Type 0} (stands : List ℕ → Setting → List Noted → H → Ty
       → left.turns + right.turns ≡ v.turns → left.moves + right.moves ≡ v.moves
       → ((f : Letter → ℕ) → lying f left + lying f right ≡ lying f v)
       → (IsView l.shape r.setting v → IsView l.shape r.setting left × IsView l.shape r.setting right)
+      → left.own ≡ v.own → right.own.notes ≡ []
       → IsSound stands l (record { words = s.words; homes = s.homes; views = set s.views id left ++ right ∷ [] })
-  cut_in_two s r id v left right at vo lo ro adds shares turns moves letters fine =
+  cut_in_two s r id v left right at vo lo ro adds shares turns moves letters fine own none =
       let both = fine (each_at (IsView l.shape r.setting) s.views id v r.views at) in
       let same : (f : SeatView → ℕ) → f left + f right ≡ f v
       → sum_by f (set s.views id left ++ right ∷ []) ≡ sum_by f s.views = (λ f e.
@@ -120,6 +122,9 @@ module _ {H : Type 0} (stands : List ℕ → Setting → List Noted → H → Ty
         known =
             known_regroups s.views (set s.views id left ++ right ∷ [])
             (λ f. same (weigh f) (adds (λ (q : Part). sum_by f q.notes) refl)) regroups r.known;
+        lone =
+            lone_cut s.views id v left right at
+            (λ f. same (weigh f) (adds (λ (q : Part). sum_by f q.notes) refl)) own none r.lone;
         looks =
             looks_regroup s.views (set s.views id left ++ right ∷ [])
             (λ p g. same (weigh (on_root ref_retain p g))
@@ -194,7 +199,7 @@ module _ {H : Type 0} (stands : List ℕ → Setting → List Noted → H → Ty
               All-cons (λ (p : Part). All (Stands l.shape p.number) p.notes) (empty_part None) []
               (All-nil (Stands l.shape None)) (All-nil (λ (p : Part). All (Stands l.shape p.number) p.notes));
         },
-      ))
+      )) refl refl
 
   -- a seat with some of the moves beside one in no section
   pub shares_allowed : (n id : ℕ) (v : SeatView) → v.inside ≡ None → n ≤ v.moves
@@ -248,4 +253,4 @@ module _ {H : Type 0} (stands : List ℕ → Setting → List Noted → H → Ty
               All-cons (λ (p : Part). All (Stands l.shape p.number) p.notes) (empty_part None) []
               (All-nil (Stands l.shape None)) (All-nil (λ (p : Part). All (Stands l.shape p.number) p.notes));
         },
-      ))
+      )) refl refl

@@ -3,7 +3,7 @@ use Rattle.step_law.specs.Settings.{Setting}
 use Rattle.std.proofs.Common.{◌≡◌, ◌≢◌, ℕ, ◌+◌, ◌*◌, ◌<◌, ◌≤◌, List, [], ◌∷◌, ◌++◌, map, length, set, Bool, false, cond, sym, refl, ap, ◌∙◌, subst, inl, inr, arith, ne_eqb, eq-eqb, true≢false, length-set, lt_of_not-le}
 use Rattle.std.specs.Prelude.{Option, Some, None, IfSome, IsTrue, option_map, All, sum_by, count_by, slice_index}
 use Rattle.std.proofs.lemmas.List.Elements.{All-cons, All-head, All-set, All-nil}
-use Rattle.std.proofs.lemmas.List.Sums.{sum_by-cons}
+use Rattle.std.proofs.lemmas.List.Sums.{sum_by-cons, sum_by-le-sum_by}
 use lib.Seq.{set-append_left, set-append_seam}
 use mathlib.Core.Logic.{dite}
 use native.Mathlib.Decide.{dec_le}
@@ -14,6 +14,8 @@ use Rattle.atomic_table.proofs.Lists.{set_here, set_else, set_again, at_longer, 
 use Rattle.step_law.proofs.Changes.{within, each_at, sum_at, sum_set, sum_same, map_same}
 use Rattle.pool_law.specs.declared.id.Parcel.{Parcel}
 use Rattle.pool_law.specs.declared.id.ViewData.{ViewData}
+use Rattle.pool_law.specs.declared.id.RootId.{RootId}
+use Rattle.history_laws.specs.NoteCounts.{view_of_root}
 use Rattle.pool_law.specs.declared.note.Did.TheVariants.{Post, Fetch}
 use Rattle.pool_law.specs.declared.note.Noted.{Noted}
 use Rattle.pool_law.specs.declared.note.Object.{Object}
@@ -30,7 +32,7 @@ use Rattle.pool_table.specs.declared.views.Letter.{Letter}
 use Rattle.pool_table.specs.declared.views.Part.{Part}
 use Rattle.pool_table.specs.declared.views.SeatView.{SeatView}
 use Rattle.pool_table.specs.Views.{ObjectView, parts_of, is_lane, took_turn, object_view, object_part, numbered, spent, empty_part, blank, with_entry}
-use Rattle.pool_table.specs.Counts.{weigh, weigh_in, on_root, on_place, reached, returned, HasCount}
+use Rattle.pool_table.specs.Counts.{weigh, weigh_in, on_root, on_place, posts, reached, returned, HasCount}
 use Rattle.pool_table.specs.Hands.{PutsDown}
 use Rattle.pool_table.specs.Births.{IsBorn, NamesBorn}
 use Rattle.pool_table.specs.Capacities.{TellsGiven, knows_of}
@@ -41,6 +43,10 @@ use Rattle.pool_table.specs.Sound.{IsKept, IsSound, IsView, OnceBelow, Stands}
 use Rattle.pool_table.proofs.Births.{born_same, born_entry}
 use Rattle.pool_table.proofs.Capacities.{post_tells}
 use Rattle.pool_table.proofs.Tidings.{known_same, known_more, fetch_tells}
+use Rattle.pool_table.specs.Lone.{names}
+use Rattle.pool_table.proofs.Lone.{lone_same, lone_entry, count_names, weigh_le, MayName}
+use Rattle.pool_table.proofs.RootEntries.{named_this}
+use Rattle.pool_table.proofs.LoneLaws.{post_weighs}
 use Rattle.pool_table.proofs.Counts.{other_kept}
 use Rattle.pool_table.proofs.Known.{no_home}
 use Rattle.pool_table.proofs.Posts.{other_sends_none, other_receives_none, only_own, is_letter, is_itself}
@@ -98,7 +104,7 @@ module _ {H : Type 0} (stands : List ℕ → Setting → List Noted → H → Ty
       → took_turn (At (Mail a b) k n) ≡ false
       → IsView l.shape r.setting (with_entry v (At (Mail a b) k n) v.turns) → IsView l.shape r.setting z
       → Fits l.shape r.one_order.made (At (Mail a b) k n) → NamesBorn s.views (At (Mail a b) k n)
-      → TellsGiven s.views (At (Mail a b) k n)
+      → TellsGiven s.views (At (Mail a b) k n) → MayName s.views v (At (Mail a b) k n)
       → AreMailed (set (set s.views id (with_entry v (At (Mail a b) k n) v.turns)) other z)
       → IsSound stands l (record {
         words = s.words;
@@ -106,7 +112,7 @@ module _ {H : Type 0} (stands : List ℕ → Setting → List Noted → H → Ty
         views =
             set (set s.views id (with_entry v (At (Mail a b) k n) v.turns)) other z;
       })
-  mail_step s r id other v u z a b k n at ne at' vo uo zo parts moves turns free fw fz fit born tells mailed =
+  mail_step s r id other v u z a b k n at ne at' vo uo zo parts moves turns free fw fz fit born tells may mailed =
       let e : Entry = At (Mail a b) k n in let w : SeatView = with_entry v e v.turns in
       let mid : List SeatView = set s.views id w in
       let there : get_elem? mid other ≡ some u = set_else s.views id other w ne ∙ at' in
@@ -147,6 +153,7 @@ module _ {H : Type 0} (stands : List ℕ → Setting → List Noted → H → Ty
             (r.objects o fits);
         born = born_same mid other u z there parts (born_entry s.views id v w e at refl born r.born);
         known = known_same mid other u z there parts (known_more s.views id v w e at refl tells r.known);
+        lone = lone_same mid other u z there parts (lone_entry s.views id v w e at refl may r.lone);
         looks =
             looks_same mid other u z there parts
             (looks_entry s.views id v w e at refl (λ q k is. absurd (cc is)) r.looks);
@@ -256,6 +263,18 @@ module _ {H : Type 0} (stands : List ℕ → Setting → List Noted → H → Ty
         by (Some w) puts names =
             let e : w.root ≡ t = cc names in subst (IsBorn s.views) e (count_born stands l s r id v at w.root puts)
 
+    post_may : (views : List SeatView) → MayName views v post
+    post_may views = record {
+      fresh = λ q lt. absurd (omega (arith, lt));
+      known = λ q none lt. inl (by q x.parcel.view counts (omega (arith, lt)));
+    }
+      where
+        by : (q : RootId) (o : Option ViewData) → IfSome o (λ (w : ViewData). HasCount w.root v)
+            → 0 < view_of_root q o → 0 < weigh (names q) v
+        by q None puts lt = absurd (omega (arith, lt))
+        by q (Some w) puts lt =
+            subst (λ (t : RootId). 0 < weigh (names t) v) (named_this w.root q 1 lt) (count_names w.root v puts)
+
     post_view : (s : St) (r : IsSound stands l s) (id : ℕ) → get_elem? s.views id ≡ some v
         → IsView l.shape r.setting (sends v x)
     post_view s r id at =
@@ -293,6 +312,7 @@ module _ {H : Type 0} (stands : List ℕ → Setting → List Noted → H → Ty
         let got = mail_step s' r' id n v b z x.from x.to x.number (by_lane x.from (Post x.parcel)) at' ne last vo refl
         refl refl refl refl refl (post_view s' r' id at') (bare_view l r'.setting v.setting (x ∷ []) fine.setting_is)
         (post_fits s' r' id at') (post_born s' r' id at') (post_tells stands l s' r' id v at' x counts reaches)
+        (post_may s'.views)
         (mailed_step s'.views id n v b w z post at' (set_else s'.views id n w ne ∙ last) refl refl refl
         (record {
           sent = λ y is. let same : x ≡ y = cc is in
@@ -318,6 +338,26 @@ module _ {H : Type 0} (stands : List ℕ → Setting → List Noted → H → Ty
       (own : v.own.number ≡ Some x.to) (number : x.number ≡ received_on x.from x.to v.own.notes + 1) where
     abbrev fetch : Entry
     fetch = fetch_of x
+
+    -- a view of the root that comes was posted
+    fetch_may : (s : St) (r : IsSound stands l s) (other : ℕ) (u : SeatView) → get_elem? s.views other ≡ some u
+        → ((f : Letter → ℕ) → f x ≤ lying f u) → MayName s.views v fetch
+    fetch_may s r other u at lies = record {
+      fresh = λ q lt. absurd (omega (arith, lt));
+      known =
+          λ q none lt.
+          let f : Letter → ℕ = λ y. view_of_root q y.parcel.view in
+          let a = r.mailed.kept f in let b = sum_at (lying f) s.views other u at in let c = lies f in
+          let le = sum_by-le-sum_by (weigh (sent_as f)) (weigh (posts q)) s.views
+          (weigh_le (sent_as f) (posts q) (post_weighs q)) in
+          let sent : ℕ = sum_by (weigh (sent_as f)) s.views in
+          let got : ℕ = sum_by (weigh (received_as f)) s.views in
+          let there : ℕ = sum_by (lying f) s.views in let here : ℕ = lying f u in
+          let posted : ℕ = sum_by (weigh (posts q)) s.views in
+          let a' : sent ≡ got + there = a in let b' : here ≤ there = b in let c' : f x ≤ here = c in
+          let le' : sent ≤ posted = le in let some_view : 0 < f x = omega (arith, lt) in
+          inr (let g : 0 < posted = omega (arith, a', b', c', le', some_view) in g);
+    }
 
     pub receives_allowed : (id other : ℕ)
         → Joins (IsSound stands l) id v other (letter_view setting x) (receives v x) (blank None)
@@ -353,6 +393,7 @@ module _ {H : Type 0} (stands : List ℕ → Setting → List Noted → H → Ty
         (bare_view l r.setting None [] tt)
         ((number ∙ ap (λ (n : ℕ). n + 1) (sym only ∙ r.one_order.each g)), omega (arith, low, all))
         sent.born (fetch_tells s.views x sent.reaches)
+        (fetch_may s r other u at' (λ f. let c = sum_by-cons f x [] in omega (arith, c)))
         (mailed_step s.views id other v u w z fetch at there refl refl refl
         (record {
           sent = λ y is. absurd (cc is);

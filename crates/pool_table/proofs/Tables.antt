@@ -37,6 +37,7 @@ use Rattle.pool_table.specs.Sequence.{AreInOneOrder}
 use Rattle.pool_table.proofs.Sequence.{IsAlone}
 use Rattle.pool_table.specs.Births.{AreBorn}
 use Rattle.pool_table.specs.Capacities.{AreKnown}
+use Rattle.pool_table.specs.Lone.{AreLone}
 use Rattle.pool_table.specs.Letters.{AreMailed}
 use Rattle.pool_table.proofs.Known.{no_home}
 use Rattle.std.proofs.lemmas.Bool.{eqb-true}
@@ -52,7 +53,8 @@ module _ {H : Type 0} (stands : List ℕ → Setting → List Noted → H → Ty
       → ((j : ℕ) → j ≢ home_of l.shape o → object_view l.shape j w ≡ object_view l.shape j v)
       → ((m : ℕ) → numbered m w ≡ numbered m v) → IsWeighedSame v w → IsView l.shape r.setting w → spent w ≤ spent v
       → AreLooksRight (set s.views id w) → AreInOrder (set s.views id w) → AreInOneOrder l.shape (set s.views id w)
-      → AreBorn (set s.views id w) → AreKnown (set s.views id w) → AreMailed (set s.views id w)
+      → AreBorn (set s.views id w) → AreKnown (set s.views id w) → AreLone (set s.views id w)
+      → AreMailed (set s.views id w)
       → length homes' ≡ length s.homes → ((j : ℕ) → j ≢ slot_of l.shape o → get_elem? homes' j ≡ get_elem? s.homes j)
       → IsKept stands l.shape r.setting o
       (set (map (object_view l.shape (home_of l.shape o)) s.views) id (object_view l.shape (home_of l.shape o) w)) n
@@ -63,8 +65,8 @@ module _ {H : Type 0} (stands : List ℕ → Setting → List Noted → H → Ty
         views =
             set s.views id w;
       })
-  changes s r id v w o n homes' fits at elsewhere numbers refs fine spends looks order one_order born known mailed
-      wide homes
+  changes s r id v w o n homes' fits at elsewhere numbers refs fine spends looks order one_order born known
+      lone mailed wide homes
       kept =
       let i : ℕ = home_of l.shape o in
       let d : ℕ = word_of l.shape o in
@@ -101,6 +103,7 @@ module _ {H : Type 0} (stands : List ℕ → Setting → List Noted → H → Ty
             (r.objects p fits'));
         born = born;
         known = known;
+        lone = lone;
         looks = looks;
         order = order;
         one_order = one_order;

@@ -36,6 +36,8 @@ use Rattle.pool_table.specs.Sequence.{FitsCount}
 use Rattle.pool_table.proofs.Sequence.{one_more}
 use Rattle.pool_table.proofs.Births.{born_entry}
 use Rattle.pool_table.proofs.Tidings.{known_entry}
+use Rattle.pool_table.specs.Lone.{names}
+use Rattle.pool_table.proofs.Lone.{lone_entry, names_step}
 use Rattle.pool_table.specs.Births.{IsBorn}
 use Rattle.pool_table.specs.Sound.{IsKept, IsSound, IsView, Stands, OnceBelow}
 use Rattle.pool_table.proofs.AtPlace.{CountsAt}
@@ -114,14 +116,14 @@ module _ {H : Type 0} (stands : List ℕ → Setting → List Noted → H → Ty
       (retains_in (set s.views id (with_ref v root d m)) root.place root.generation)
       (v.own.notes ++ Ref root d ∷ []) v.own.notes)
       → IsCounted p (set s.views id (with_ref v root d m)) n → IsBorn s.views root
-      → FitsCount r.one_order.made root d
+      → FitsCount r.one_order.made root d → 0 < weigh (names root) v
       → IsSound stands l (record {
         words = set s.words (count_word_of l.shape p) n;
         homes = s.homes;
         views =
             set s.views id (with_ref v root d m);
       })
-  ref_changes s r id p n m v root d lt rp out at awake moves counted settled handy roots look kept born fit =
+  ref_changes s r id p n m v root d lt rp out at awake moves counted settled handy roots look kept born fit named =
       let w : SeatView = with_ref v root d m in let d' : ℕ = count_word_of l.shape p in
       let inside : d' < length s.words = subst (λ (n : ℕ). d' < n) (sym r.words) (count_word l.shape p lt) in
       let fine : IsView l.shape r.setting v = each_at (IsView l.shape r.setting) s.views id v r.views at in
@@ -177,6 +179,7 @@ module _ {H : Type 0} (stands : List ℕ → Setting → List Noted → H → Ty
             born_entry s.views id v w (Ref root d) at refl
             (λ q is. subst (IsBorn s.views) (let f : root ≡ q = cc is in f) born) r.born;
         known = known_entry s.views id v w (Ref root d) at refl (λ q lt. absurd (omega (arith, lt))) r.known;
+        lone = lone_entry s.views id v w (Ref root d) at refl (names_step s.views v root d named) r.lone;
         looks =
             looks_entry s.views id v w (Ref root d) at refl
             (λ q k is. subst (λ (y : RootId). IsLookRight y.place y.generation k

@@ -22,6 +22,7 @@ use Rattle.pool_table.specs.declared.views.SeatView.{SeatView}
 use Rattle.pool_table.specs.Births.{IsBorn}
 use Rattle.pool_table.specs.Capacities.{KnowsNoMore}
 use Rattle.pool_table.specs.Counts.{weigh, HasCount, HasToken}
+use Rattle.pool_table.specs.Lone.{names, IsLone, CarriesNone}
 use Rattle.pool_table.specs.Hands.{InHand, taken, put_down, HasTaking, grasped, laid, uses_come, uses_gone, to_place}
 use Rattle.pool_table.specs.Sound.{IsSound}
 
@@ -137,3 +138,12 @@ module _ {H : Type 0} (stands : List ℕ → Setting → List Noted → H → Ty
       (p : ℕ) (fits : IsObjectOf l.shape (Root p)) (x : RootPlace) (q : Present) →
       IsPlaceAfter p (r.objects (Root p) fits).history x → x.present ≡ Some q →
       All (KnowsNoMore q.root (length q.bytes)) s.views
+
+  -- a root that a view bore and posted to nobody is named by no other view, so that none counts it or
+  -- has its end token, and no letter carries a view of it
+  abbrev pub LoneRootsAreUnshared : Type 0
+  LoneRootsAreUnshared =
+      (s : State (Option H) SeatView) → IsSound stands l s → (v u : SeatView) → AreTwo s v u →
+      (r : RootId) → IsLone r v →
+      (weigh (names r) u ≡ 0) × (HasCount r u → ⊥) × (HasToken r u → ⊥)
+      × All (CarriesNone r) s.views

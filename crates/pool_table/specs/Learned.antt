@@ -23,6 +23,7 @@ use Rattle.pool_table.specs.Views.{noted_of, noted_weight, is_about, is_lane}
 use Rattle.pool_table.specs.Counts.{weigh, on_this, ref_vacated, gained_of, lost_of, HasCount, HasToken}
 use Rattle.pool_table.specs.Numbers.{IsAbove}
 use Rattle.pool_table.specs.Capacities.{knows_of}
+use Rattle.pool_table.specs.Lone.{names, IsLone, own_bytes}
 use Rattle.pool_table.specs.Hands.{ends, HasNoEnd, InHand, NoneWaits, from_arena, to_arena, grasped, laid, HasTaking, HasRegion, IsLaidDown}
 use Rattle.pool_table.specs.Sound.{IsView}
 
@@ -43,6 +44,13 @@ pub record TellsRoot (l : Layout) (p : ℕ) (v : SeatView) (h : List Noted) : Ty
   -- the root that it counts has at least the capacity that it knows
   pub capacity : (r : RootId) → r.place ≡ p → HasCount r v → (x : RootPlace) (q : Present) →
       IsPlaceAfter p h x → x.present ≡ Some q → knows_of r v ≤ length q.bytes
+  -- the bytes of a root with which a lane's seat is alone are those that its own notes laid
+  pub lone : (r : RootId) (lane : ℕ) → r.place ≡ p → v.own.number ≡ Some lane → IsLone r v →
+      (x : RootPlace) (q : Present) →
+      IsPlaceAfter p h x → x.present ≡ Some q → q.root ≡ r → q.bytes ≡ own_bytes r v
+  -- the seat hasn't named a root of a later generation than the last one's
+  pub unnamed : (r : RootId) → r.place ≡ p → (x : RootPlace) → IsPlaceAfter p h x →
+      x.generation < r.generation → sum_by (names r) v.own.notes ≡ 0
 
 -- the entries of the seat's own part, weighed
 abbrev pub in_own : (Entry → ℕ) → SeatView → ℕ

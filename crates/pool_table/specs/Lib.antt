@@ -12,6 +12,7 @@ pub mod Order
 pub mod Numbers
 pub mod Hands
 pub mod Births
+pub mod Lone
 pub mod Sequence
 pub mod Sound
 pub mod Learned

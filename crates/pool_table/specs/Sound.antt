@@ -28,6 +28,7 @@ use Rattle.pool_table.specs.Counts.{IsCounted, gained, lost, gained_beside, lost
 use Rattle.pool_table.specs.Hands.{put_down, taken, MayEnter, IsOrderly}
 use Rattle.pool_table.specs.Births.{AreBorn}
 use Rattle.pool_table.specs.Capacities.{AreKnown}
+use Rattle.pool_table.specs.Lone.{AreLone}
 use Rattle.pool_table.specs.Letters.{AreMailed}
 use Rattle.pool_table.specs.Looks.{AreLooksRight}
 use Rattle.pool_table.specs.Order.{AreInOrder}
@@ -210,6 +211,8 @@ pub record IsSound {H : Type 0}
   -- each capacity that a note tells was given to its root, and the view in a letter reaches no
   -- further
   pub known : AreKnown s.views
+  -- who bore a root and posted it to nobody is the only one to name it
+  pub lone : AreLone s.views
   -- each look told the truth, and notes that follow an earlier note have the higher numbers
   pub looks : AreLooksRight s.views
   pub order : AreInOrder s.views

@@ -3,6 +3,7 @@
 ghost use Rattle.pool_table.specs.declared.views.Layout.{Layout};
 ghost use Rattle.pool_table.specs.Holders.{
   CapacitiesAreKnown,
+  LoneRootsAreUnshared,
   PlacesInOneHand,
   PlacesInOnePlace,
   RootsBornAlone,
@@ -53,4 +54,10 @@ pub fn roots_come_in_turn<H: Told<Note = Noted>>()
 /// view of it in no letter reaches further.
 pub fn capacities_are_known<H: Told<Note = Noted>>()
     ensures known { (l : Layout) → CapacitiesAreKnown H.stands l }
+{}
+
+/// Between any two steps a root that one seat bore and posted to nobody is this seat's alone: no
+/// other seat counts it or noted anything of it, and no letter carries a view of it.
+pub fn lone_roots_are_unshared<H: Told<Note = Noted>>()
+    ensures unshared { (l : Layout) → LoneRootsAreUnshared H.stands l }
 {}

@@ -20,8 +20,6 @@ mod seats;
 mod section;
 mod sections;
 mod table;
-#[cfg(test)]
-mod tests;
 mod tokens;
 mod views;
 

@@ -1,9 +1,9 @@
 use Rattle.pool_table.specs.Opened.{IsFirstSeat}
-use Rattle.pool_table.specs.declared.tests.TheConstants.{LAYOUT}
+use Rattle.section_cases.specs.declared.diary.TheConstants.{LAYOUT}
 use Rattle.std.proofs.Common.{[], ◌≡◌}
 use Rattle.step_law.specs.Settings.{no_setting}
-use Rattle.pool_table.proofs.Trials.{each_stands, two_last}
-use Rattle.pool_table.proofs.tests.open_table.Goals as goal
+use Rattle.section_cases.proofs.Trials.{each_stands, two_last}
+use Rattle.section_cases.proofs.diary.open_table.Goals as goal
 
 pub new-requires-clause-stand : goal.new-requires-clause-stand
 new-requires-clause-stand c =

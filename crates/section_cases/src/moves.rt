@@ -15,9 +15,9 @@ ghost use Rattle.pool_table.specs.Steps.{lane_view, share_left, share_added};
 ghost use Rattle.pool_table.specs.Opened.{IsFirstSeat};
 ghost use Rattle.pool_table.specs.Seats.{view_of, IsSeatOf, IsOutside, HasView, SameSeat};
 
-use super::{Diary, LAYOUT, Opened, open_table, write};
-use crate::{Dropped, PoolSeat, PoolTable};
+use crate::diary::{Diary, LAYOUT, Opened, count, open_table, write};
 use pool_law::{Did, Named, Noted, Object, Place, RegionId, RootId};
+use pool_table::{Dropped, PoolSeat, PoolTable};
 use size_classes::DEFAULT_PAGE;
 use std::marker::Brand;
 use std::process::Abort;
@@ -91,7 +91,7 @@ fn note_first<N: Named>(
     let Ok(mut section) = table.claim(seat, object, false) else {
         panic!(rt; "held")
     };
-    let before = section.home.notes.len();
+    let before = count(&mut section);
     if before > 0 {
         panic!(rt; "noted already")
     }

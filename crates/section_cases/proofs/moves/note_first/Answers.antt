@@ -6,6 +6,7 @@ use Rattle.pool_law.specs.declared.note.Noted.{Noted}
 use Rattle.pool_law.specs.declared.note.Object.{Object}
 use Rattle.pool_law.specs.Naming.{noted_by}
 use Rattle.history_laws.specs.Histories.{IsHistory}
+use Rattle.pool_table.specs.declared.table.Section.{Section}
 use Rattle.pool_table.specs.declared.table.HomeSlot.{HomeSlot}
 use Rattle.pool_table.specs.declared.views.Inside.{Inside}
 use Rattle.pool_table.specs.declared.views.Entry.TheVariants.{At}
@@ -14,8 +15,9 @@ use Rattle.pool_table.specs.Hands.{PutsDown}
 use Rattle.pool_table.specs.Sections.{IsInside}
 use Rattle.pool_table.specs.Seats.{view_of}
 use Rattle.pool_table.specs.Views.{with_entry}
-use Rattle.pool_table.proofs.Trials.{none_of, named_by}
-use Rattle.pool_table.proofs.tests.moves.note_first.Goals as goal
+use Rattle.section_cases.specs.declared.diary.Diary.{Diary}
+use Rattle.section_cases.proofs.Trials.{none_of, named_by}
+use Rattle.section_cases.proofs.moves.note_first.Goals as goal
 
 pub done-requires-clause-section : goal.done-requires-clause-section
 done-requires-clause-section g c =
@@ -25,17 +27,19 @@ done-requires-clause-section g c =
     let number : (view_of c.claim.new.seat).own.number ≡ Some 0 = ap (λ v. v.own.number) got.view ∙ c.requires.number in
     let stood : items ≡ h = subst (λ (y : Option Setting). IfSome y (λ (g : Setting). items ≡ h)) given.1
     got.learned.stands_for in
-    let len : length items ≡ 0 = (let a = c.if-before-gt0.false in let b = c.len-before.ensures in let d : length items
-    ≡ c.len-before.result = search (rules, b) in omega (arith, a, d)) in
+    let len : length items ≡ 0 = (let a = c.if-before-gt0.false in let b = c.count-before.ensures.count in omega
+    (arith, a, b)) in
+    let still : c.count-before.new.section ≡ c.in-Ok.section = c.count-before.ensures.same in
     let none : h ≡ [] = sym stood ∙ none_of items len in
-    let same = c.write.ensures.same in let object = same.0 ∙ got.object in
+    let object = c.write.ensures.same.0 ∙ ap (λ (x : Section Diary). x.object) still ∙ got.object in
+    let slot = c.write.ensures.same.1 ∙ ap (λ (x : Section Diary). x.slot) still in
     let lane : Option ℕ = (view_of c.claim.new.seat).own.number in
     let by : noted_by lane g.N.Named.note ≡ n = ap (λ (x : Noted). noted_by lane x) c.requires.named
     ∙ named_by n lane c.requires.lane number in record {
       history = h;
       inside =
           subst (λ (y : Object × HomeSlot). IsInside shape c.claim.new.seat.seat.me y.0 y.1 h)
-          (λ q. (sym object q, sym same.1 q)) got.inside;
+          (λ q. (sym object q, sym slot q)) got.inside;
       follows =
           subst (λ (y : Shape × (Object × (List Noted × Noted))). IsHistory y.0 y.1.0 (y.1.1.0 ++ y.1.1.1 ∷ []))
           (λ q. (
@@ -53,6 +57,7 @@ done-requires-clause-section g c =
         known = ap (λ v. v.setting) got.view ∙ given.1;
         stands_for =
             c.in-Ok-write.ensures.written
+            ∙ ap (λ (x : Section Diary). x.home.notes.items ++ n ∷ []) still
             ∙ (λ q. stood q ++ sym by q ∷ []);
       };
     }
@@ -64,13 +69,14 @@ returns-clause-noted g c =
     let number : (view_of c.claim.new.seat).own.number ≡ Some 0 = ap (λ v. v.own.number) got.view ∙ c.requires.number in
     let stood : items ≡ h = subst (λ (y : Option Setting). IfSome y (λ (g : Setting). items ≡ h)) given.1
     got.learned.stands_for in
-    let len : length items ≡ 0 = (let a = c.if-before-gt0.false in let b = c.len-before.ensures in let d : length items
-    ≡ c.len-before.result = search (rules, b) in omega (arith, a, d)) in
+    let len : length items ≡ 0 = (let a = c.if-before-gt0.false in let b = c.count-before.ensures.count in omega
+    (arith, a, b)) in
+    let still : c.count-before.new.section ≡ c.in-Ok.section = c.count-before.ensures.same in
     let none : length h ≡ 0 = ap (λ (x : List Noted). length x) (sym stood) ∙ len in
     let next : c.done.result ≡ length h + 1 = subst (λ (y : Option Inside). IfSome y (λ (x : Inside). c.done.result
     ≡ x.number + 1)) got.inside.inside c.done.ensures.number in
     let one : c.done.result ≡ 1 = omega (arith, none, next) in
-    let object = c.write.ensures.same.0 ∙ got.object in
+    let object = c.write.ensures.same.0 ∙ ap (λ (x : Section Diary). x.object) still ∙ got.object in
     let lane : Option ℕ = (view_of c.claim.new.seat).own.number in
     let by : noted_by lane g.N.Named.note ≡ n = ap (λ (x : Noted). noted_by lane x) c.requires.named
     ∙ named_by n lane c.requires.lane number in

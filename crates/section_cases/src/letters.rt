@@ -1,8 +1,8 @@
 //! What becomes of letters: they are received in turn, or lie unfetched at the close, or are dropped.
 
-use super::{Opened, open_table};
-use crate::Letter;
+use crate::diary::{Opened, open_table};
 use pool_law::Parcel;
+use pool_table::Letter;
 use std::test::Fail;
 
 // A parcel without a view.

@@ -1,15 +1,15 @@
 use Rattle.std.proofs.Common.{◌≡◌, ◌-◌, length, sym, ap, ◌∙◌, subst}
 use Rattle.pool_law.specs.declared.note.Noted.{Noted}
 use Rattle.pool_law.specs.declared.note.Object.TheVariants.{Arena, Bin, Root}
-use Rattle.pool_table.specs.declared.tests.TheConstants.{LAYOUT}
+use Rattle.section_cases.specs.declared.diary.TheConstants.{LAYOUT}
 use Rattle.pool_table.specs.declared.views.Entry.TheVariants.{At}
 use Rattle.pool_table.specs.declared.views.SeatView.{SeatView}
 use Rattle.pool_table.specs.Hands.{IsAwaited, PutsDown}
 use Rattle.pool_table.specs.Seats.{view_of}
 use Rattle.pool_table.specs.Steps.{lane_view}
 use Rattle.pool_table.specs.Views.{entered, with_entry}
-use Rattle.pool_table.proofs.FirstRoot.{with_handle, with_region, with_birth, puts_down, awaited}
-use Rattle.pool_table.proofs.tests.moves.first_root.Goals as goal
+use Rattle.section_cases.proofs.FirstRoot.{with_handle, with_region, with_birth, puts_down, awaited}
+use Rattle.section_cases.proofs.moves.first_root.Goals as goal
 
 pub note_first-requires-3-clause-hands : goal.note_first-requires-3-clause-hands
 note_first-requires-3-clause-hands g c h =

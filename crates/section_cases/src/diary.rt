@@ -1,25 +1,20 @@
-//! What the table does at single calls. A home value of these tests is the list of its own notes.
+//! A table whose home values are the lists of their own notes.
 
 ghost use Rattle.step_law.specs.Settings.{Setting};
 ghost use Rattle.std.specs.Prelude.{◌≡◌, ℕ, ◌<◌, ◌≤◌, ◌+◌, ◌-◌, ◌++◌, ◌∷◌, [], length, Some, None, OnOk, IfOk, All, List};
 ghost use Rattle.pool_law.specs.declared.note.Noted.{Noted};
 ghost use Rattle.pool_table.specs.Opened.{IsFirstSeat};
 
-mod letters;
-mod moves;
-
-use crate::{Layout, PoolSeat, PoolTable, Section};
-use pool_law::{Did, Level, Named, Noted, Object, Shape};
+use pool_law::{Level, Noted, Shape};
+use pool_table::{Layout, PoolSeat, PoolTable, Section};
 use size_classes::DEFAULT_PAGE;
 use std::alloc::{AllocError, Global};
-use std::marker::Brand;
-use std::test::Fail;
-use step_law::{Told, pack};
+use step_law::Told;
 
 /// A home value that keeps each note made on it.
 #[derive(Drop)]
-struct Diary {
-    notes: Vec<Noted>,
+pub(crate) struct Diary {
+    pub(crate) notes: Vec<Noted>,
 }
 
 impl Told for Diary {
@@ -43,7 +38,7 @@ impl Told for Diary {
 }
 
 // Two lanes with one handle each.
-const LAYOUT: Layout = Layout {
+pub(crate) const LAYOUT: Layout = Layout {
     shape: Shape {
         page: DEFAULT_PAGE,
         order: 3,
@@ -73,13 +68,13 @@ fn empty_homes(alloc: Global) -> Result<Vec<Diary>, AllocError>
 }
 
 // A new table with the seats of its two lanes.
-struct Opened {
-    table: PoolTable<Diary>,
-    first: PoolSeat<Diary>,
-    second: PoolSeat<Diary>,
+pub(crate) struct Opened {
+    pub(crate) table: PoolTable<Diary>,
+    pub(crate) first: PoolSeat<Diary>,
+    pub(crate) second: PoolSeat<Diary>,
 }
 
-fn open_table(alloc: Global) -> Result<Opened, AllocError>
+pub(crate) fn open_table(alloc: Global) -> Result<Opened, AllocError>
     ensures layout { IfOk result (λ o. o.table.layout ≡ LAYOUT) }
     ensures first { IfOk result (λ o. (g : Setting) × IsFirstSeat LAYOUT g 0 o.table o.first) }
     ensures second { IfOk result (λ o. (g : Setting) × IsFirstSeat LAYOUT g 1 o.table o.second) }
@@ -103,7 +98,7 @@ fn open_table(alloc: Global) -> Result<Opened, AllocError>
 }
 
 // Writes the note into the home value.
-fn write(section: &mut Section<Diary>, noted: Noted) -> Result<(), AllocError>
+pub(crate) fn write(section: &mut Section<Diary>, noted: Noted) -> Result<(), AllocError>
     ensures written { OnOk result
         (section.new.home.notes.items ≡ section.old.home.notes.items ++ noted ∷ []) }
     ensures same { (section.new.object ≡ section.old.object)
@@ -116,46 +111,10 @@ fn write(section: &mut Section<Diary>, noted: Noted) -> Result<(), AllocError>
     Ok(())
 }
 
-#[test]
-fn a_second_claim_is_held(rt: HostRuntime) -> Result<(), Fail> {
-    let Opened {
-        table,
-        mut first,
-        mut second,
-    } = open_table(rt.alloc())?;
-    assert!(rt; first.number() == Some(0) && second.number() == Some(1));
-    let Ok(mut section) = table.claim(&mut first, Object::Bin(0), false) else {
-        panic!(rt; "held")
-    };
-    let number = match table.claim(&mut second, Object::Bin(0), false) {
-        Ok(_other) => panic!(rt; "not held"),
-        Err(held) => held.number,
-    };
-    assert!(rt; number == 0);
-    let before = section.home.notes.len();
-    if before > 0 {
-        panic!(rt; "noted already")
-    }
-    let noted = Noted {
-        did: Did::Handle(0),
-        lane: Some(0),
-        watch: None,
-        root: None,
-        region: None,
-    };
-    let Ok(()) = write(&mut section, noted) else {
-        panic!(rt; "no memory")
-    };
-    let noted_at = table.done::<Brand>(&mut first, section);
-    assert!(rt; noted_at == 1);
-    table.join(&mut first, second);
-    let (homes, words) = table.close_with(first);
-    assert!(rt; homes.len() == 85 && words.len() == 87);
-    assert!(rt; words[81] == 2 && words[85] == 1 && words[86] == 1);
-    Ok(())
-}
-
-#[test]
-fn a_count_of_generation_two_is_packed(rt: HostRuntime) {
-    assert!(rt; pack(2, 2) == 0x0000_0002_0000_0002);
+// How many notes there are in the home value.
+pub(crate) fn count(section: &mut Section<Diary>) -> usize
+    ensures same { section.new ≡ section.old }
+    ensures count { result ≡ length section.old.home.notes.items }
+{
+    Section::home(section).notes.len()
 }

@@ -1,7 +1,7 @@
 use Rattle.std.specs.Prelude.{◌≡◌, Some, []}
 use Rattle.pool_table.specs.Counts.{HasCount}
 use Rattle.pool_table.specs.Seats.{view_of, IsSeatOf, IsOutside}
-use Rattle.pool_table.proofs.tests.moves.moves_come_back.Given as goal
+use Rattle.section_cases.proofs.moves.moves_come_back.Given as goal
 
 abbrev pub invariant-loop-round : goal.invariant-loop-round
 invariant-loop-round g l = record {

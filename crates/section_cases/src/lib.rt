@@ -1,0 +1,15 @@
+#![tactic(auto)]
+//! The table of a pool as its caller uses it: sections, the counts of roots, letters and shares of
+//! moves.
+//!
+//! A crate with tests is proved twice, once with them; these stand over the crate as it is built, so
+//! that it isn't proved again for them.
+
+#[cfg(test)]
+mod diary;
+#[cfg(test)]
+mod letters;
+#[cfg(test)]
+mod moves;
+#[cfg(test)]
+mod sections;
