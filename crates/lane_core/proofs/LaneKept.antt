@@ -248,7 +248,7 @@ module _ (pool : SharedPool) (l : Lane) (lane : IsRunningLane pool l) (d : Conte
       group_length : answered.answered.notes ≡ length group
       group_length =
           let a = ap (λ (es : ToldNotes). length es) whole in let b = length-append (answered_entries l) group in let
-            c =
+          c =
           before_length in
           let e = length-map (notes_of d) entry_of in let f = answered.notes in omega (arith, a, b, c, e, f)
 

@@ -165,7 +165,7 @@ module _ (pool : SharedPool) (before after : Hand) (old mid : Context) (added : 
 
   -- the log of the step's context has its counts
   pub moved_counts : (rest : ToldNotes) (root : RootId) → count_of root (log_of start rest).seen ≡ counted mid.counts
-    root
+      root
   moved_counts rest root = m.counts.counts root
 
   -- it goes on
@@ -223,7 +223,7 @@ module _ (pool : SharedPool) (before after : Hand) (old mid : Context) (added : 
     sweeping = record start { names = names; notes = mid.notes; asked = 0 }
 
     body_reads : (rest : ToldNotes) → reads_from old.shape lane s command stage (log_of old (map entry_of added ++
-      rest))
+        rest))
         ≡ swept lane (answer reply bound) (log_of start rest)
     body_reads rest =
         body_is (log_of old (map entry_of added ++ rest))

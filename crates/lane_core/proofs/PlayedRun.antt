@@ -39,7 +39,7 @@ use Rattle.lane_core.proofs.PlayedReported.{leaks-are}
 
 -- a lane of the log's fields, which were rewritten one by one
 log-as : (shape : Shape) (k : ℕ) (a b : List Command) (r q : List Answered) (e f : List ToldNote) → a ≡ b → r ≡ q → e ≡
-  f
+    f
     → IsLaneLog shape k a r e → IsLaneLog shape k b q f
 log-as shape k a b r q e f x y z h =
     subst (λ c. IsLaneLog shape k c q f) x

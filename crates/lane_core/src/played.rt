@@ -11,7 +11,6 @@ use pool_law::{CommandList, CommandLists, LaneLog, LaneLogs, Run, Shape, Trace};
 use shared_pool::{PoolSeat, SharedPool};
 use std::alloc::{AllocError, Global};
 use std::marker::Model;
-use std::sync::Wait;
 
 /// A run that lanes played over a pool. It is legal, what a lane did before it sent a parcel
 /// stands, at each object, before what the receiver did there after it fetched it, and all steps of
@@ -57,8 +56,7 @@ impl Played {
 /// of its leaks.
 ///
 /// After want of memory the pool and the lanes are spent.
-pub fn finish<W: Wait>(
-    rt: &W,
+pub fn finish(
     alloc: Global,
     pool: SharedPool,
     shape: &Shape,
@@ -76,7 +74,7 @@ pub fn finish<W: Wait>(
         return Err(AllocError);
     };
     let (Parted { commands, logs }, seats) = part(lanes, parted);
-    let end = match pool.close(rt, alloc, seats) {
+    let end = match pool.close(alloc, seats) {
         Ok(end) => end,
         Err((pool, seats)) => {
             pool.abandon(seats);

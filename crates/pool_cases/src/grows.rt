@@ -122,6 +122,6 @@ fn buffers_get_more_capacity(rt: HostRuntime) -> Result<(), Fail> {
         grown_once(&rt, &pool, &sizes, &mut first, ROWS[k]);
     }
     left_behind(&rt, &pool, &sizes, &mut first);
-    assert!(rt; close(&rt, rt.alloc(), pool, first, second, spare)? == 1);
+    assert!(rt; close(rt.alloc(), pool, first, second, spare)? == 1);
     Ok(())
 }

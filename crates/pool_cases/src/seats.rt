@@ -13,7 +13,7 @@ ghost use Rattle.seat_work.specs.Works.{Works, Goes, Proceeds};
 
 use pool_law::{Level, Parcel, RootId, Shape, ViewData};
 use pool_table::Layout;
-use seat_work::{allocate, fetch, get, post, release, retain, set, with_bytes};
+use seat_work::{allocate, fetch, get, post, release, retain, set, with_bytes, with_bytes_mut};
 use shared_pool::{PoolSeat, SharedPool};
 use size_classes::{DEFAULT_PAGE, SizeClasses};
 use std::alloc::{AllocError, Global};
@@ -76,8 +76,7 @@ pub(crate) fn open(alloc: Global) -> Result<Pair, AllocError>
 }
 
 // Closes a pool, and answers how many chunks it had taken.
-pub(crate) fn close<W: Wait>(
-    rt: &W,
+pub(crate) fn close(
     alloc: Global,
     pool: SharedPool,
     first: PoolSeat,
@@ -92,7 +91,7 @@ pub(crate) fn close<W: Wait>(
 {
     spare.push_reserved(first);
     spare.push_reserved(second);
-    match pool.close(rt, alloc, spare) {
+    match pool.close(alloc, spare) {
         Ok(end) => Ok(end.chunks.items().len()),
         Err((pool, seats)) => {
             pool.abandon(seats);
@@ -152,7 +151,8 @@ pub(crate) fn bytes_at<R: Abort + Wait>(
     (out, shown)
 }
 
-// A buffer from its allocation to its release. Its bytes are 0 at first, and then those written.
+// A buffer from its allocation to its release. Its bytes are 0 at first, then those written, and
+// then those turned round in place.
 fn live_once<R: Abort + Wait>(
     rt: &R,
     pool: &SharedPool,
@@ -162,14 +162,24 @@ fn live_once<R: Abort + Wait>(
     at: u32,
 )
     requires sizes { sizes.now ≡ geometry_of pool.now.table.layout.shape }
-    requires works { Works pool.now empty_hand 15 0 seat.old }
-    ensures goes { Goes pool.now empty_hand 15 0 seat.old seat.new }
+    requires works { Works pool.now empty_hand 18 0 seat.old }
+    ensures goes { Goes pool.now empty_hand 18 0 seat.old seat.new }
 {
     let root = made(rt, pool, sizes, seat, size);
     assert!(rt; size >= 4 && at <= size - 4);
     assert!(rt; bytes_at(rt, pool, seat, root, at) == ([0, 0, 0, 0], true));
     set(rt, pool, seat, root, at, &[1, 2, 3, 4]);
     assert!(rt; bytes_at(rt, pool, seat, root, at) == ([1, 2, 3, 4], true));
+    with_bytes_mut(
+        rt,
+        pool,
+        seat,
+        root,
+        at,
+        4,
+        |bytes: &mut [u8]| bytes.reverse(),
+    );
+    assert!(rt; bytes_at(rt, pool, seat, root, at) == ([4, 3, 2, 1], true));
     assert!(rt; release(rt, pool, seat, root));
 }
 
@@ -186,7 +196,7 @@ fn buffers_keep_what_is_written(rt: HostRuntime) -> Result<(), Fail> {
         let (size, at) = ROWS[row];
         live_once(&rt, &pool, &sizes, &mut first, size, at);
     }
-    assert!(rt; close(&rt, rt.alloc(), pool, first, second, spare)? == 1);
+    assert!(rt; close(rt.alloc(), pool, first, second, spare)? == 1);
     Ok(())
 }
 
@@ -212,7 +222,7 @@ fn the_last_release_ends_a_buffer(rt: HostRuntime) -> Result<(), Fail> {
     } = open(rt.alloc())?;
     let root = made(&rt, &pool, &sizes, &mut first, 24);
     counted_twice(&rt, &pool, &mut first, root);
-    assert!(rt; close(&rt, rt.alloc(), pool, first, second, spare)? == 1);
+    assert!(rt; close(rt.alloc(), pool, first, second, spare)? == 1);
     Ok(())
 }
 
@@ -249,6 +259,6 @@ fn a_buffer_goes_to_another_lane(rt: HostRuntime) -> Result<(), Fail> {
     };
     post(&rt, &pool, &mut first, 1, Parcel { view: Some(view) });
     received(&rt, &pool, &mut second, root);
-    assert!(rt; close(&rt, rt.alloc(), pool, first, second, spare)? == 1);
+    assert!(rt; close(rt.alloc(), pool, first, second, spare)? == 1);
     Ok(())
 }

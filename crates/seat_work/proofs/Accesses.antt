@@ -1,23 +1,25 @@
 -- An access to a root: it changes neither counts nor hands, and sends nothing.
-use Rattle.std.proofs.Common.{◌≡◌, ℕ, ◌-◌, List, [], ◌∷◌, ◌++◌, Option, refl, subst, arith}
+use Rattle.std.proofs.Common.{◌≡◌, ℕ, ◌-◌, List, [], ◌∷◌, ◌++◌, length, Option, refl, subst, arith}
 use Rattle.pool_law.specs.declared.id.RootId.{RootId}
 use Rattle.pool_law.specs.declared.note.Did.{Did}
 use Rattle.pool_law.specs.declared.note.Noted.{Noted}
 use Rattle.pool_law.specs.declared.note.Object.{Object}
 use Rattle.pool_law.specs.declared.note.Object.TheVariants.{Root}
 use Rattle.pool_law.specs.Naming.{noted_by}
+use Rattle.pool_law.specs.Roots.{bytes_at}
 use Rattle.shared_pool.specs.declared.seat.PoolSeat.{PoolSeat}
 use Rattle.pool_table.specs.declared.views.Entry.{Entry}
 use Rattle.pool_table.specs.declared.views.Entry.TheVariants.{At}
 use Rattle.pool_table.specs.declared.views.SeatView.{SeatView}
 use Rattle.pool_table.specs.Counts.{HasCount}
+use Rattle.pool_table.specs.Lone.{IsLone, own_bytes}
 use Rattle.pool_table.specs.Numbers.{IsAbove}
 use Rattle.shared_pool.specs.SeatViews.{view_of, HasView}
 use Rattle.pool_table.specs.Views.{with_entry}
 use Rattle.history_laws.specs.Histories.{IsHistory}
 use Rattle.shared_pool.specs.declared.pool.SharedPool.{SharedPool}
 use Rattle.pool_table.specs.Letters.{sent_on}
-use Rattle.shared_pool.specs.RootNotes.{access}
+use Rattle.shared_pool.specs.RootNotes.{access, IsSetOver}
 use Rattle.shared_pool.specs.Seats.{IsPoolSeat, IsNoted}
 use Rattle.seat_work.specs.Hands.{empty_hand, lane_in}
 use Rattle.seat_work.specs.Changes.{no_change}
@@ -107,6 +109,22 @@ noted_same pool old mid new number o n same noted = record {
       HasView new (with_entry v (At (o v) number (noted_by v.own.number n)) (v.turns - 1)))
       same noted.seat;
 }
+
+-- so is the note of a set over other bytes
+pub set_same : (pool : SharedPool) (old mid new : PoolSeat) (root : RootId) (number offset : ℕ) (before bytes : List ℕ)
+    → view_of mid ≡ view_of old → IsSetOver pool mid new root number offset before bytes
+    → IsSetOver pool old new root number offset before bytes
+unfolding noted_same
+set_same pool old mid new root number offset before bytes same over = let n = access root (Did.Set offset bytes) in
+    record {
+      noted = noted_same pool old mid new number (λ v. Root root.place) n same over.noted;
+      there =
+          subst (λ (v : SeatView). IsHistory pool.table.layout.shape (Root root.place)
+          (over.noted.history ++ noted_by v.own.number (access root (Did.Get offset before)) ∷ [])) same over.there;
+      lone =
+          subst (λ (v : SeatView). IsLone root v → before ≡ bytes_at (own_bytes root v) offset (length before)) same
+          over.lone;
+    }
 
 module _ (pool : SharedPool) (old mid new : PoolSeat) (root : RootId) (number : ℕ)
     (did : Did) (seat : IsPoolSeat pool mid) (same : view_of mid ≡ view_of old) where

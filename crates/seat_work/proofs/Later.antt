@@ -1,6 +1,6 @@
 -- A seat further on, behind steps of its own.
 use Rattle.std.proofs.Common.{◌≡◌, ℕ, zero, suc, ◌+◌, ◌≤◌, List, [], ◌∷◌, ◌++◌, Bool, true, false, length, refl, sym, ap, ◌∙◌, subst, arith, append_assoc, append-nil, length-append, Some}
-use Rattle.std.specs.Prelude.{◌&&◌, ◌||◌, slice_get, Option, None, Result, Ok, Err, IfOk}
+use Rattle.std.specs.Prelude.{◌&&◌, ◌||◌, slice_get, sum_by, Option, None, Result, Ok, Err, IfOk}
 use Rattle.std.specs.List.{list_all}
 use Rattle.std.proofs.lemmas.Bool.{and_parts}
 use Rattle.handle_bin.specs.Bins.{HandleValue}
@@ -11,24 +11,31 @@ use Rattle.pool_law.specs.declared.id.RootId.{RootId}
 use Rattle.pool_law.specs.declared.note.Held.{Held}
 use Rattle.pool_law.specs.declared.note.Noted.{Noted}
 use Rattle.pool_law.specs.declared.note.Object.{Object}
+use Rattle.pool_law.specs.declared.note.Object.TheVariants.{Root}
 use Rattle.pool_law.specs.declared.note.RefDid.{RefDid}
 use Rattle.pool_law.specs.declared.note.RefDid.TheVariants.{Born}
+use Rattle.pool_law.specs.declared.report.Watch.{Watch}
 use Rattle.shared_pool.specs.declared.seat.PoolSeat.{PoolSeat}
 use Rattle.pool_law.specs.Counts.{root_is}
+use Rattle.pool_law.specs.Naming.{noted_by}
 use Rattle.pool_table.specs.declared.views.Entry.{Entry}
+use Rattle.pool_table.specs.declared.views.Entry.TheVariants.{Ref, Busy}
 use Rattle.pool_table.specs.declared.views.SeatView.{SeatView}
 use Rattle.pool_table.specs.Counts.{with_ref}
+use Rattle.pool_table.specs.Lone.{IsLone, names}
 use Rattle.shared_pool.specs.SeatViews.{view_of, HasView, SameSeat}
 use Rattle.shared_pool.specs.declared.pool.SharedPool.{SharedPool}
 use Rattle.shared_pool.specs.declared.went.Put.{Put}
 use Rattle.shared_pool.specs.declared.went.Put.TheVariants.{Kept, Back}
 use Rattle.shared_pool.specs.CacheAnswers.{was_put}
 use Rattle.shared_pool.specs.Notes.{popped, hit}
-use Rattle.shared_pool.specs.RootNotes.{IsNotedWith}
+use Rattle.shared_pool.specs.PlaceSteps.{used}
+use Rattle.shared_pool.specs.RootNotes.{birth, IsNotedWith}
 use Rattle.seat_work.specs.declared.allocation.AllocNo.{AllocNo}
 use Rattle.shared_pool.specs.Seats.{IsPoolSeat, IsNoted, FoundBusy}
-use Rattle.seat_work.specs.Growth.{HasGrown, asks_root, is_ask, is_quiet, is_quiet_but, is_quiet_entry}
+use Rattle.seat_work.specs.Growth.{BearsNew, HasGrown, asks_root, is_ask, is_quiet, is_quiet_but, is_quiet_entry}
 use Rattle.seat_work.specs.Works.{IsLater, IsLaterBut, IsLaterBy, HasBorn}
+use Rattle.seat_work.proofs.Bearing.{bears_on, bears_one, bears_two, bears_born, born_zeros, ask_bears, is_still, still_bears, still_quiet, unnamed_first}
 use Rattle.seat_work.proofs.Grown.{Grows, note_at, grows_noted, grows_busy, grows_none, grows_ref, grows_with}
 
 -- ---- Views that grow.
@@ -105,19 +112,19 @@ before (x ∷ xs) ys (suc k) e is = before xs ys k e is
 
 -- ---- What pops, takes and puts note.
 
-pub quiet_popped : (h : Option HandleValue) → is_quiet (popped h) ≡ true
+pub quiet_popped : (h : Option HandleValue) → is_still (popped h) ≡ true
 quiet_popped None = refl
 quiet_popped (Some h) = refl
 
-pub quiet_hit : (r : Option Region) → is_quiet (hit r) ≡ true
+pub quiet_hit : (r : Option Region) → is_still (hit r) ≡ true
 quiet_hit None = refl
 quiet_hit (Some r) = refl
 
-pub quiet_taken : (class : ℕ) (r : Option Region) → is_quiet (taken_or_full class r) ≡ true
+pub quiet_taken : (class : ℕ) (r : Option Region) → is_still (taken_or_full class r) ≡ true
 quiet_taken class None = refl
 quiet_taken class (Some r) = refl
 
-pub quiet_put : (id : RegionId) (put : Put) → is_quiet (was_put id put) ≡ true
+pub quiet_put : (id : RegionId) (put : Put) → is_still (was_put id put) ≡ true
 quiet_put id Kept = refl
 quiet_put id (Back why r) = refl
 
@@ -129,7 +136,14 @@ same_on old mid new x y = (y.0 ∙ x.0, y.1 ∙ x.1)
 
 module _ (pool : SharedPool) where
   pub later_none : (s : PoolSeat) → IsPoolSeat pool s → IsLater pool s s
-  later_none s is = record { same = (refl, refl); seat = is; added = []; grown = grown_none (view_of s); quiet = refl }
+  later_none s is = record {
+    same = (refl, refl);
+    seat = is;
+    added = [];
+    grown = grown_none (view_of s);
+    quiet = refl;
+    once = λ r some. refl;
+  }
 
   module _ (is_so : Entry → Bool) where
     abbrev pub follows_on : (old mid new : PoolSeat) → IsLaterBy is_so pool old mid → IsLaterBy is_so pool mid new
@@ -140,6 +154,9 @@ module _ (pool : SharedPool) where
       added = x.added ++ y.added;
       grown = grown_on (view_of old) (view_of mid) (view_of new) x.added y.added x.grown y.grown;
       quiet = quiet_on is_so x.added y.added x.quiet y.quiet;
+      once =
+          bears_on (view_of old).own.notes x.added y.added x.once
+          (subst (λ (es : List Entry). BearsNew es y.added) x.grown.notes y.once);
     }
 
     -- what follows a seat that knows what it knew
@@ -151,6 +168,7 @@ module _ (pool : SharedPool) where
       added = x.added;
       grown = subst (λ (v : SeatView). HasGrown v (view_of new) x.added) view x.grown;
       quiet = x.quiet;
+      once = subst (λ (v : SeatView). BearsNew v.own.notes x.added) view x.once;
     }
 
   abbrev pub later_on : (old mid new : PoolSeat) → IsLater pool old mid → IsLater pool mid new → IsLater pool old new
@@ -168,18 +186,20 @@ module _ (pool : SharedPool) where
     added = x.added;
     grown = x.grown;
     quiet = quiet_too root x.added x.quiet;
+    once = x.once;
   }
 
   module _ (old new : PoolSeat) (same : SameSeat old new) (was : IsPoolSeat pool old)
       (is : IsPoolSeat pool new) where
     abbrev pub later_by : (es : List Entry) (spent : ℕ) → Grows (view_of old) (view_of new) es spent
-        → list_all is_quiet_entry es ≡ true → IsLater pool old new
-    later_by es spent grows quiet = record {
+        → list_all is_quiet_entry es ≡ true → BearsNew (view_of old).own.notes es → IsLater pool old new
+    later_by es spent grows quiet once = record {
       same = same;
       seat = is;
       added = es;
       grown = grown_by (view_of old) (view_of new) es spent grows;
       quiet = quiet;
+      once = once;
     }
 
     -- a root is asked for capacity
@@ -191,38 +211,62 @@ module _ (pool : SharedPool) where
       added = note_at pool old new was is o number n ∷ [];
       grown = grown_by (view_of old) (view_of new) _ 0 (grows_noted pool old new was is o number n noted);
       quiet = ap (λ b. (is_quiet n.did || b) && true) asks ∙ or_last (is_quiet n.did);
+      once = bears_one (view_of old).own.notes (note_at pool old new was is o number n)
+          (λ r. ask_bears r n.did (root_is root n.root) asks);
     }
 
     -- the calls that make a note, that leave a mark, and that do nothing
-    pub later_noted : {o : Object} {number : ℕ} {n : Noted} → IsNoted pool old new o number n → is_quiet n.did ≡ true
+    pub later_noted : {o : Object} {number : ℕ} {n : Noted} → IsNoted pool old new o number n → is_still n.did ≡ true
         → IsLater pool old new
-    later_noted {o} {number} {n} noted quiet =
-        later_by _ 0 (grows_noted pool old new was is o number n noted) (ap (λ b. b && true) quiet)
+    later_noted {o} {number} {n} noted still =
+        later_by _ 0 (grows_noted pool old new was is o number n noted)
+        (ap (λ b. b && true) (still_quiet n.did still))
+        (bears_one (view_of old).own.notes (note_at pool old new was is o number n)
+        (λ r. still_bears r n.did still))
 
     pub later_busy : (o : Object) (held : Held) → FoundBusy pool o true old new held → IsLater pool old new
     later_busy o held found = later_by _ 0 (grows_busy pool old new was is o held found) refl
+        (bears_one (view_of old).own.notes (Busy held) (λ r. refl))
 
     pub later_has : HasView new (view_of old) → IsLater pool old new
-    later_has has = later_by [] 0 (grows_none pool old new was has) refl
+    later_has has = later_by [] 0 (grows_none pool old new was has) refl (λ r some. refl)
 
     -- a step on the count of a root, and one behind a note
     pub later_ref : (r : RootId) (d : RefDid) (moves spent : ℕ) → HasView new (with_ref (view_of old) r d moves)
         → (view_of old).moves ≤ moves + spent → IsLater pool old new
     later_ref r d moves spent has le = later_by _ spent (grows_ref pool old new was is r d moves spent has le) refl
+        (bears_one (view_of old).own.notes (Ref r d) (λ q. refl))
 
     abbrev pub later_with : (root : RootId) (number : ℕ) (n : Noted) (step : RefDid) (moves spent : ℕ)
         → IsNotedWith pool old new root number n step moves → (view_of old).moves ≤ moves + spent
-        → is_quiet n.did ≡ true → IsLater pool old new
-    later_with root number n step moves spent noted le quiet =
+        → is_still n.did ≡ true → IsLater pool old new
+    later_with root number n step moves spent noted le still =
+        let v = view_of old in let e = note_at pool old new was is (Root root.place) number n in
         later_by _ spent (grows_with pool old new was is root number n step moves spent noted le)
-        (ap (λ b. b && (true && true)) quiet)
+        (ap (λ b. b && (true && true)) (still_quiet n.did still))
+        (bears_two v.own.notes e root step (bears_one v.own.notes e (λ r. still_bears r n.did still)))
 
     -- a birth
-    pub born_with : (root : RootId) (number : ℕ) (n : Noted) (moves : ℕ)
-        → IsNotedWith pool old new root number n Born moves → (view_of old).moves ≤ moves + 0
-        → is_quiet n.did ≡ true → HasBorn pool root old new
-    born_with root number n moves noted le quiet =
-        record { later = later_with root number n Born moves 0 noted le quiet; at = 1; born = refl }
+    module _ (root : RootId) (number : ℕ) (region : RegionId) (watch : Option Watch) (moves : ℕ)
+        (noted : IsNotedWith pool old new root number (birth root region watch) Born moves)
+        (le : (view_of old).moves ≤ moves + 0) (fresh : sum_by (names root) (view_of old).own.notes ≡ 0) where
+      abbrev pub later_born : IsLater pool old new
+      later_born =
+          let v = view_of old in let n : Noted = birth root region watch in
+          let e = note_at pool old new was is (Root root.place) number n in
+          later_by _ 0 (grows_with pool old new was is root number n Born moves 0 noted le) refl
+          (bears_two v.own.notes e root Born
+          (bears_born v.own.notes root (used region) (Root root.place) number (noted_by v.own.number n) refl fresh))
+
+      pub born_with : IsLone root (view_of new) → HasBorn pool root old new
+      born_with lone = record {
+        later = later_born;
+        at = 1;
+        born = refl;
+        fresh = fresh;
+        lone = lone;
+        zeros = born_zeros pool old new root number region watch moves noted;
+      }
 
   -- behind a birth, and before one
   pub born_on : (root : RootId) (old mid new : PoolSeat) → IsLater pool old mid → HasBorn pool root mid new
@@ -231,6 +275,10 @@ module _ (pool : SharedPool) where
     later = later_on old mid new x y.later;
     at = length x.added + y.at;
     born = behind x.added y.later.added y.at ∙ y.born;
+    fresh =
+        unnamed_first root (view_of mid).own.notes (view_of old).own.notes x.added x.grown.notes y.fresh;
+    lone = y.lone;
+    zeros = y.zeros;
   }
 
   pub if_born_on : (old mid new : PoolSeat) (r : Result RootId AllocNo) → IsLater pool old mid

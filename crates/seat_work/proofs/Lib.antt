@@ -9,6 +9,7 @@ pub mod Proceeding
 pub mod Calls
 pub mod Accesses
 pub mod HandedOver
+pub mod Bearing
 pub mod Later
 pub mod Regrowing
 pub mod Worn

@@ -1,5 +1,5 @@
 -- What steps add to a seat's own part, and how much one step may.
-use Rattle.std.specs.Prelude.{◌≡◌, ℕ, ◌+◌, ◌≤◌, ◌&&◌, ◌||◌, if◌then◌else◌, Bool, true, false, List, [], ◌∷◌, ◌++◌, length, map}
+use Rattle.std.specs.Prelude.{◌≡◌, ℕ, ◌+◌, ◌<◌, ◌≤◌, ◌&&◌, ◌||◌, if◌then◌else◌, Bool, true, false, List, [], ◌∷◌, ◌++◌, length, map, sum_by}
 use Rattle.pool_law.specs.declared.id.RootId.{RootId}
 use Rattle.pool_law.specs.declared.note.Did.{Did}
 use Rattle.pool_law.specs.declared.note.Did.TheVariants.{Take, Full, Give, Hit, Miss, Kept, Back, Trim, Close, Shed, Handle, NoHandle, Home, Post, Fetch, Birth, Set, Get, Touch, Room, Extend, Grow, End}
@@ -9,6 +9,7 @@ use Rattle.pool_law.specs.Counts.{root_is}
 use Rattle.pool_table.specs.declared.views.Entry.{Entry}
 use Rattle.pool_table.specs.declared.views.Entry.TheVariants as entries
 use Rattle.pool_table.specs.declared.views.SeatView.{SeatView}
+use Rattle.pool_table.specs.Lone.{births}
 use Rattle.shared_pool.specs.Closing.{note_of}
 
 -- how many notes pass a test
@@ -48,6 +49,11 @@ pub record HasGrown (old new : SeatView) (added : List Entry) : Type 0 where
   pub number : new.own.number ≡ old.own.number
   pub setting : new.setting ≡ old.setting
   pub turns : old.turns ≤ new.turns + length added
+
+-- no root that one of the first entries bore is born by the others
+abbrev pub BearsNew : List Entry → List Entry → Type 0
+BearsNew first others =
+    (root : RootId) → 0 < sum_by (births root) first → sum_by (births root) others ≡ 0
 
 -- what was done neither accesses a root's bytes or capacity nor passes a parcel
 abbrev pub is_quiet : Did → Bool

@@ -12,7 +12,7 @@ mod hand_over;
 mod regions;
 mod regrowth;
 
-pub use access::{get, set, with_bytes};
+pub use access::{get, set, with_bytes, with_bytes_mut};
 pub use allocation::{AllocNo, allocate};
 pub use counts::{release, retain};
 pub use hand_over::{fetch, post};

@@ -1,6 +1,6 @@
 -- A birth as the call makes it, of a section that a claim of the place got, or no birth there.
 use Rattle.std.proofs.Common.{◌≡◌, ℕ, ◌+◌, ◌-◌, ◌*◌, ◌/◌, ◌<◌, ◌≤◌, sym, ap, ◌∙◌, subst, refl, arith}
-use Rattle.std.specs.Prelude.{Option, IfSome}
+use Rattle.std.specs.Prelude.{Option, IfSome, sum_by}
 use Rattle.pool_law.specs.declared.id.RootId.{RootId}
 use Rattle.pool_law.specs.declared.id.Region.{Region}
 use Rattle.pool_law.specs.declared.note.Object.{Object}
@@ -16,6 +16,7 @@ use Rattle.pool_table.specs.declared.table.PoolSeat.{PoolSeat as TableSeat}
 use Rattle.pool_table.specs.declared.table.Section.{Section}
 use Rattle.pool_table.specs.Counts.{with_ref}
 use Rattle.pool_table.specs.Hands.{InHand, NoneWaits, Waits, IsAwaited, MayLeave}
+use Rattle.pool_table.specs.Lone.{IsLone, names}
 use Rattle.pool_table.specs.Views.{with_entry}
 use Rattle.pool_table.specs.Seats.{view_of}
 use Rattle.shared_pool.specs.SeatViews.{HasView}
@@ -31,6 +32,7 @@ use Rattle.shared_pool.specs.declared.home.Home.{Home}
 use Rattle.shared_pool.specs.declared.pool.SharedPool.{SharedPool}
 use Rattle.shared_pool.specs.declared.seat.PoolSeat.{PoolSeat}
 use Rattle.shared_pool.proofs.Endings.{ends, made, IsNext}
+use Rattle.shared_pool.proofs.LoneSeats.{unnamed_yet, lone_born}
 use Rattle.shared_pool.proofs.PlaceBirths.{birth_waits}
 use Rattle.shared_pool.proofs.PlaceCalls.{bears_here, worn_here, born_next, born_noted}
 
@@ -105,6 +107,11 @@ module _ (pool : SharedPool) (old : PoolSeat) (new : TableSeat Home _) (place : 
         ends l (RootOf place) old.seat new section got seat.setting seat.settled after (birth root region.id watch)
         next_here
 
+    -- none of the seat's notes names the root
+    unnamed : sum_by (names root) (view_of old.seat).own.notes ≡ 0
+    unnamed = unnamed_yet l place old.seat new section got (view_of old.seat).own.number root region.id watch
+        (root_is.0 ∙ sym at) next_here.follows
+
     module _ (last : TableSeat Home _) (number : ℕ)
         (counted : IfSome (view_of new).inside (λ x. number ≡ x.number + 1))
         (noted : HasView (record old { seat = last }) (with_entry (view_of new)
@@ -137,3 +144,24 @@ module _ (pool : SharedPool) (old : PoolSeat) (new : TableSeat Home _) (place : 
       birth_did end result is has =
           born_noted pool old last end place number root result region.id watch noted_here (root_is.0 ∙ sym at)
           (is root (root_is.0 ∙ sym at) root_is.1 waiting.1) has
+
+      -- the seat is alone with the root
+      pub birth_lone : (end : TableSeat Home _) (result : RootId)
+          → ((r : RootId) → r.place ≡ place → r.capacity ≡ capacity → Waits r (view_of last) → result ≡ r)
+          → HasView (record old { seat = end }) (with_ref (view_of last) result Born (view_of last).moves)
+          → IsLone result (view_of end)
+      birth_lone end result is has =
+          let v = view_of old.seat in let same : result ≡ root = is root (root_is.0 ∙ sym at) root_is.1 waiting.1 in
+          let m : ℕ = (view_of last).moves in
+          let alone : IsLone root (with_ref (view_of last) root Born m) =
+          subst (λ (w : SeatView). IsLone root (with_ref w root Born m)) (sym (λ i. (noted_here.seat i).0))
+          (lone_born v (RootOf place) number (v.turns - 1) m v.own.number root region.id watch unnamed) in
+          subst (λ (w : SeatView). IsLone result w) (sym (λ i. (has i).0))
+          (subst (λ (r : RootId). IsLone r (with_ref (view_of last) r Born m)) (sym same) alone)
+
+      -- none of the seat's notes named the root before
+      pub birth_fresh : (result : RootId)
+          → ((r : RootId) → r.place ≡ place → r.capacity ≡ capacity → Waits r (view_of last) → result ≡ r)
+          → sum_by (names result) (view_of old.seat).own.notes ≡ 0
+      birth_fresh result is = subst (λ (r : RootId). sum_by (names r) (view_of old.seat).own.notes ≡ 0)
+          (sym (is root (root_is.0 ∙ sym at) root_is.1 waiting.1)) unnamed

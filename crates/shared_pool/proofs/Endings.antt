@@ -101,6 +101,20 @@ made l o old new section got setting known pool last after number n layout next 
     number_is : number ≡ length got.history + 1
     number_is = subst (λ (v : SeatView). IfSome v.inside (λ x. number ≡ x.number + 1)) got.view counted
 
+-- the history that it follows is that of the section
+pub made_after : (l : Layout) (o : Object) (old : PoolSeat) (new : TableSeat Home _) (section : Section Home)
+    (got : GotSection HomeStands l o old.seat new section) (setting : Setting)
+    (known : (view_of old.seat).setting ≡ Some setting) (pool : SharedPool) (last : TableSeat Home _)
+    (after : Section Home) (number : ℕ) (n : Noted) (layout : pool.table.layout ≡ l)
+    (next : IsNext l o old.seat new section got setting known after n)
+    (counted : IfSome (view_of new).inside (λ x. number ≡ x.number + 1))
+    (has : HasView last (with_entry (view_of new) (At after.object number (noted_by (view_of new).own.number n))
+    ((view_of new).turns - 1))) →
+    (made l o old new section got setting known pool last after number n layout next counted has).history
+    ≡ got.history
+unfolding made
+made_after l o old new section got setting known pool last after number n layout next counted has = refl
+
 -- a plain note carries no watch
 pub plain_watch : (did : Did) → IsRightWatch did None
 plain_watch (Birth root region) = tt

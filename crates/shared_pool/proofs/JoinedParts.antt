@@ -1,5 +1,5 @@
 -- The parts of the seats with which a pool is closed, as the parts of one view.
-use Rattle.std.proofs.Common.{◌≡◌, ℕ, ◌+◌, ◌<◌, ◌≤◌, List, [], ◌∷◌, ◌++◌, ◌*◌, append_assoc, length, map, sym, refl, ap, ◌∙◌, subst, arith, Some}
+use Rattle.std.proofs.Common.{◌≡◌, ℕ, ◌+◌, ◌<◌, ◌≤◌, List, [], ◌∷◌, ◌++◌, append_assoc, map, sym, ap, ◌∙◌, subst, arith, Some}
 use Rattle.std.specs.Prelude.{All, reverse, slice_get, sum_by}
 use Rattle.std.proofs.lemmas.Option.{slice_get_within, get_or_from_slice_get}
 use Rattle.std.proofs.lemmas.List.Elements.{All-cons, All-head, All-map, All-nil, All-tail}
@@ -7,12 +7,10 @@ use Rattle.std.proofs.lemmas.List.{length-map, reverse-append, reverse-reverse}
 use Rattle.std.proofs.lemmas.List.Sums.{sum_by-cons}
 use mathlib.Core.Logic.{dite}
 use native.Mathlib.Decide.{ℕ_discrete, dec_le}
-use Rattle.atomic_table.specs.Seated.{TableId}
 use Rattle.pool_law.specs.declared.id.RootId.{RootId}
 use Rattle.pool_law.specs.declared.run.Shape.{Shape}
 use Rattle.shared_pool.specs.declared.seat.PoolSeat.{PoolSeat}
 use Rattle.pool_table.specs.declared.views.Entry.{Entry}
-use Rattle.pool_table.specs.declared.views.Layout.{Layout}
 use Rattle.pool_table.specs.declared.views.Part.{Part}
 use Rattle.pool_table.specs.declared.views.SeatView.{SeatView}
 use Rattle.pool_table.specs.Closed.{HasAllLanes}
@@ -24,12 +22,9 @@ use Rattle.shared_pool.specs.SeatViews.{view_of}
 use Rattle.pool_table.specs.Views.{joined, parts_of}
 use Rattle.pool_table.specs.declared.table.PoolTable.{PoolTable}
 use Rattle.shared_pool.specs.declared.home.Home.{Home}
-use Rattle.shared_pool.specs.declared.mail.Mail.{Mail}
 use Rattle.shared_pool.specs.declared.pool.SharedPool.{SharedPool}
 use Rattle.shared_pool.specs.Closing.{AreLanes, HasNoPlace}
-use Rattle.shared_pool.specs.Joining.{IsApart, AreApart, HasFetches, arenas_known}
-use Rattle.shared_pool.specs.MailEnds.{IsReceiver, KnownEnds, receiver}
-use Rattle.shared_pool.specs.Seats.{IsPoolSeat}
+use Rattle.shared_pool.specs.Joining.{IsApart, AreApart, arenas_known}
 use Rattle.shared_pool.specs.Seated.{HasNothing, IsDone, AreDone, parts_in}
 use Rattle.shared_pool.proofs.ClosingEntries.{from_at}
 use Rattle.shared_pool.proofs.ClosingMails.{lanes_all}
@@ -123,41 +118,16 @@ no_token (s ∷ ss) all r one none =
     (λ z. ih (omega (arith, a, z, one)) (omega (arith, b, none)))
     (λ ne. e.nothing.token r (omega (arith, a, b, one, none, ne)))
 
--- a seat that may be joined, whose lane's mails may be emptied
-pub record IsReady (table : PoolTable Home) (mails : List Mail) (shape : Shape) (s : PoolSeat) : Type 0 where
-  pub apart : IsApart table s.seat
-  pub fetches : HasFetches mails shape s
+-- a seat that may be joined
+abbrev pub IsReady : PoolTable Home → PoolSeat → Type 0
+IsReady table s = IsApart table s.seat
 
-pub all_ready : (table : PoolTable Home) (mails : List Mail) (shape : Shape) (seats : List PoolSeat)
-    → AreApart table (map (λ (s : PoolSeat). s.seat) seats) → All (HasFetches mails shape) seats
-    → All (IsReady table mails shape) seats
-all_ready table mails shape [] apart ends = All-nil (IsReady table mails shape)
-all_ready table mails shape (s ∷ ss) apart ends =
-    All-cons (IsReady table mails shape) s ss
-    (record {
-      apart = All-head (IsApart table) s.seat (map (λ (s : PoolSeat). s.seat) ss) apart;
-      fetches = All-head (HasFetches mails shape) s ss ends;
-    })
-    (all_ready table mails shape ss (All-tail (IsApart table) s.seat (map (λ (s : PoolSeat). s.seat) ss) apart)
-    (All-tail (HasFetches mails shape) s ss ends))
-
--- what a lane's ends of the mails are for the close
-has_fetches : (pool : SharedPool) (s : PoolSeat) → IsPoolSeat pool s
-    → HasFetches pool.mails.items pool.table.layout.shape s
-has_fetches pool s seat = record {
-  lane = seat.lane;
-  number = seat.number;
-  below = seat.below;
-  few = subst (λ (l : Layout). l.shape.lanes ≤ 16) (sym pool.same_layout) pool.shape.lanes_most;
-  many = subst (λ (l : Layout). length pool.mails.items ≡ l.shape.lanes * l.shape.lanes) (sym pool.same_layout)
-      pool.many;
-  ends = λ from lt pass m. let f = seat.fetches from lt pass m in (f.0, receives _ _ _ _ _ _ f.1);
-}
-  where
-    receives : (e : KnownEnds) (table : TableId) (from to room count : ℕ)
-        → e ≡ receiver table from to room count → IsReceiver e
-    receives e table from to room count is =
-        subst (λ (x : KnownEnds). x ≡ receiver x.table x.from x.to x.room x.received) (sym is) refl
+pub all_ready : (table : PoolTable Home) (seats : List PoolSeat)
+    → AreApart table (map (λ (s : PoolSeat). s.seat) seats) → All (IsReady table) seats
+all_ready table [] apart = All-nil (IsReady table)
+all_ready table (s ∷ ss) apart =
+    All-cons (IsReady table) s ss (All-head (IsApart table) s.seat (map (λ (s : PoolSeat). s.seat) ss) apart)
+    (all_ready table ss (All-tail (IsApart table) s.seat (map (λ (s : PoolSeat). s.seat) ss) apart))
 
 module _ (pool : SharedPool) (seats : List PoolSeat) (done : AreDone pool seats) where
   abbrev shape : Shape
@@ -189,10 +159,6 @@ module _ (pool : SharedPool) (seats : List PoolSeat) (done : AreDone pool seats)
         settled = ap arenas_known d.settled
             ∙ ap (λ (n : ℕ). Some n) d.arenas;
       }))
-
-  -- each has its lane's ends of the mails
-  pub ends : All (HasFetches pool.mails.items shape) seats
-  ends = from_at (HasFetches pool.mails.items shape) seats (λ lane s is. has_fetches pool s (one lane s is).seat)
 
   empty_handed : All IsEmptyHanded seats
   empty_handed =

@@ -6,6 +6,7 @@ pub mod CacheHomes
 pub mod CacheQuotas
 pub mod SeatEnds
 pub mod Endings
+pub mod LoneSeats
 pub mod SeatCalls
 pub mod Numbers
 pub mod PlaceHands
@@ -41,6 +42,7 @@ pub mod ClosingSteps
 pub mod ClosingPosts
 pub mod ClosingOneOrder
 pub mod ClosingLaw
+pub mod PlaceSets
 pub mod PlaceBirths
 pub mod PlaceCalls
 pub mod BirthCalls

@@ -1,6 +1,6 @@
 -- What the calls on a root place make of it, in the law's words.
 use Rattle.std.proofs.Common.{◌≡◌, ℕ, ◌+◌, ◌-◌, ◌≤◌, Bool, true, List, [], ◌∷◌, ◌++◌, length, take, drop, refl, sym, ap, ◌∙◌, subst, arith, append_assoc, length-append, eq-eqb}
-use Rattle.std.specs.Prelude.{Option, Some, None, option_map, nat_le, ◌&&◌, if◌then◌else◌}
+use Rattle.std.specs.Prelude.{Option, Some, None, option_map, unwrap_or, nat_le, ◌&&◌, if◌then◌else◌}
 use Rattle.std.proofs.lemmas.List.{take-append-le, drop-append-le, take-append-drop, length-take-le, length-drop, take_at}
 use Rattle.std.proofs.lemmas.Bool.{le-leb}
 use Rattle.pool_law.specs.declared.id.RootId.{RootId}
@@ -12,7 +12,7 @@ use Rattle.shared_pool.specs.RootPlaces.{RootState, PlaceState, law_root, law_pl
 use Rattle.shared_pool.specs.PlaceViews.{root_seen, state_in}
 use Rattle.shared_pool.specs.declared.root_place.Root.{Root}
 use Rattle.shared_pool.specs.declared.root_place.RootPlace.TheInside.{Inside}
-use Rattle.shared_pool.specs.PlaceSteps.{MayAccess, Accesses, accessed, vacated}
+use Rattle.shared_pool.specs.PlaceSteps.{MayAccess, Accesses, AreThere, accessed, shown, vacated}
 
 -- bytes that are laid over the first of a list leave the others
 pub laid-front : (xs ys : List ℕ) (a c : ℕ) → a + length ys ≤ c → c ≤ length xs
@@ -159,6 +159,14 @@ module _ (old : PlaceState) (r : RootState) (was : old.present ≡ Some r) (fits
               ∙ ap Some (sym (same_place (Access.Get lane offset (length ys))));
         }
 
+    -- so many bytes from an offset on are those that a get has
+    pub there : (offset n : ℕ) → offset + n ≤ r.capacity → AreThere offset (bytes_at (shown old) offset n) old
+    there offset n within =
+        let ys : List ℕ = bytes_at (shown old) offset n in
+        let all : Option RootState → List ℕ = λ o. unwrap_or (option_map (λ (q : RootState). q.piece.bytes) o) [] in
+        let is : ys ≡ bytes_at r.piece.bytes offset n = ap (λ (o : Option RootState). bytes_at (all o) offset n) was in
+        λ place. (gets 0 offset n ys within is).step place ∙ ap Some (same_place (Access.Get 0 offset (length ys)))
+
     pub ends : (place : ℕ) → place_step place (law_place old) (Did.End r.root) ≡ Some (law_place (vacated old))
     ends place =
         at_root place (Did.End r.root) ∙ (λ i. if same_root-refl r.root i then Some (law_place (vacated old)) else None)
@@ -206,3 +214,6 @@ module _ (i : Inside) (r s : Root) (old : PlaceState) (view : state_in i ≡ old
   is_got lane offset n ys may is same =
       made (Did.Get offset ys) (Access.Get lane offset (length ys)) r.piece.bytes same
       (gets old (root_seen r) was (fits_in offset n may) lane offset n ys (range_in offset n may) is)
+
+  pub are_there : (offset n : ℕ) → MayAccess offset n old → AreThere offset (bytes_at (shown old) offset n) old
+  are_there offset n may = there old (root_seen r) was (fits_in offset n may) offset n (range_in offset n may)

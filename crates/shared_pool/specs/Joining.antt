@@ -1,18 +1,12 @@
 -- Seats that are joined into one. No public clause cites this module.
-use Rattle.std.specs.Prelude.{◌≡◌, ℕ, ◌+◌, ◌*◌, ◌<◌, ◌≤◌, List, [], length, Option, Some, option_map, All, HoldsAt}
+use Rattle.std.specs.Prelude.{◌≡◌, ℕ, List, [], length, Option, Some, option_map, All}
 use Rattle.step_law.specs.Settings.{Setting}
 use Rattle.step_law.specs.declared.Told.{Ghosts}
 use Rattle.pool_law.specs.declared.note.Noted.{Noted}
 use Rattle.pool_table.specs.declared.table.PoolSeat.{PoolSeat}
 use Rattle.pool_table.specs.declared.table.PoolTable.{PoolTable}
 use Rattle.pool_table.specs.Seats.{view_of, IsSeatOf, IsOutside}
-use Rattle.crossbeam_queue.specs.Passes.{Pass, view, IsPassOf}
-use Rattle.pool_law.specs.declared.run.Shape.{Shape}
 use Rattle.shared_pool.specs.declared.home.Home.{Home}
-use Rattle.shared_pool.specs.declared.mail.Mail.{Mail}
-use Rattle.shared_pool.specs.declared.seat.PoolSeat.{PoolSeat as Seat}
-use Rattle.shared_pool.specs.MailEnds.{IsReceiver, KnownEnds}
-use Rattle.shared_pool.specs.Posting.{PostedLetter}
 
 -- how many arenas have grounds in a setting, if it is known
 abbrev pub arenas_known : Option Setting → Option ℕ
@@ -32,23 +26,3 @@ module _ {G : Ghosts Home Noted} where
 
   abbrev pub AreApart : PoolTable Home → List (PoolSeat Home G) → Type 0
   AreApart table seats = All (IsApart table) seats
-
--- the pass is an end of this mail that fetches
-abbrev pub IsFetchesOf : Mail → Pass PostedLetter KnownEnds → Type 0
-IsFetchesOf m pass = IsPassOf m.queue pass × IsReceiver (view pass)
-
--- the passes are the lane's ends of the mails from each lane
-abbrev pub AreFetchesOf :
-    List Mail → ℕ → ℕ → List (Pass PostedLetter KnownEnds) → Type 0
-AreFetchesOf mails lanes lane passes =
-    (from : ℕ) → from < lanes →
-    HoldsAt (λ pass. HoldsAt (λ m. IsFetchesOf m pass) mails (from * lanes + lane)) passes from
-
--- the pool's seat has its lane's ends of these mails
-pub record HasFetches (mails : List Mail) (shape : Shape) (s : Seat) : Type 0 where
-  pub lane : ℕ
-  pub number : (view_of s.seat).own.number ≡ Some lane
-  pub below : lane < shape.lanes
-  pub few : shape.lanes ≤ 16
-  pub many : length mails ≡ shape.lanes * shape.lanes
-  pub ends : AreFetchesOf mails shape.lanes lane s.fetches.items

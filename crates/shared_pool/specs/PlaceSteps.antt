@@ -54,6 +54,11 @@ pub record Accesses (old : PlaceState) (did : Did) (access : Access) (new : Plac
     pub size : length bytes ≡ length root.piece.bytes
     pub step : (place : ℕ) → place_step place (law_place old) did ≡ Some (law_place new)
 
+-- these bytes are the root's from the offset on: a get of them may stand, and changes nothing
+abbrev pub AreThere : ℕ → List ℕ → PlaceState → Type 0
+AreThere offset bytes s =
+    (place : ℕ) → place_step place (law_place s) (Did.Get offset bytes) ≡ Some (law_place s)
+
 -- the bytes of the region of the root that is present
 abbrev pub shown : PlaceState → List ℕ
 shown s = unwrap_or (option_map (λ r. r.piece.bytes) s.present) []

@@ -8,6 +8,7 @@ use Rattle.pool_law.specs.declared.note.Object.{Object}
 use Rattle.pool_law.specs.declared.note.RefDid.{RefDid}
 use Rattle.pool_law.specs.declared.report.Watch.{Watch}
 use Rattle.pool_law.specs.Naming.{noted_by}
+use Rattle.pool_law.specs.Roots.{bytes_at}
 use Rattle.history_laws.specs.Histories.{IsHistory}
 use Rattle.pool_table.specs.declared.roots.EndToken.{EndToken}
 use Rattle.shared_pool.specs.declared.seat.PoolSeat.{PoolSeat}
@@ -15,8 +16,10 @@ use Rattle.pool_table.specs.declared.views.Entry.TheVariants.{At}
 use Rattle.pool_table.specs.Views.{with_entry}
 use Rattle.pool_table.specs.Counts.{with_ref, HasToken}
 use Rattle.pool_table.specs.Hands.{HasNoEnd}
+use Rattle.pool_table.specs.Lone.{IsLone, own_bytes}
 use Rattle.pool_table.specs.Numbers.{IsAbove}
 use Rattle.shared_pool.specs.SeatViews.{view_of, HasView}
+use Rattle.shared_pool.specs.Seats.{IsNoted}
 use Rattle.shared_pool.specs.declared.pool.SharedPool.{SharedPool}
 use Rattle.shared_pool.specs.declared.went.Release.{Release}
 use Rattle.shared_pool.specs.declared.went.Release.TheVariants.{Kept, Ended}
@@ -55,6 +58,19 @@ pub record IsNotedWith
   pub seat : let v = view_of old in
       let note = At (Object.Root root.place) number (noted_by v.own.number n) in
       HasView new (with_ref (with_entry v note (v.turns - 1)) root step moves)
+
+-- the call noted a set of these bytes at the root's place, where a get would have got those before:
+-- what a seat's own notes laid, if it bore the root and posted it to nobody
+pub record IsSetOver
+    (pool : SharedPool) (old new : PoolSeat) (root : RootId) (number offset : ℕ)
+    (before bytes : List ℕ) : Type 0 where
+  pub noted :
+      IsNoted pool old new (Object.Root root.place) number (access root (Did.Set offset bytes))
+  pub there : let got = access root (Did.Get offset before) in
+      IsHistory pool.table.layout.shape (Object.Root root.place)
+      (noted.history ++ noted_by (view_of old).own.number got ∷ [])
+  pub lone : IsLone root (view_of old) →
+      before ≡ bytes_at (own_bytes root (view_of old)) offset (length before)
 
 -- the seat has the token of a root whose end it hasn't noted
 pub record HoldsToken (s : PoolSeat) (token : EndToken) : Type 0 where

@@ -6,7 +6,7 @@ ghost use Rattle.pool_law.specs.Legal.{ends_from};
 ghost use Rattle.pool_table.specs.Views.{parts_of};
 ghost use Rattle.pool_table.specs.Seats.{view_of, IsSeatOf, IsOutside};
 ghost use Rattle.shared_pool.specs.Closing.{AreWhole, logs_in};
-ghost use Rattle.shared_pool.specs.Joining.{AreApart, IsSettled, HasFetches, AreFetchesOf, IsFetchesOf};
+ghost use Rattle.shared_pool.specs.Joining.{AreApart, IsSettled};
 ghost use Rattle.shared_pool.specs.Live.{AreLiveRoots};
 ghost use Rattle.shared_pool.specs.Seated.{AreDone, parts_in};
 ghost use Rattle.shared_pool.specs.Seats.{IsPoolSeat};
@@ -15,29 +15,25 @@ use crate::emptying::close_arenas;
 use crate::home::Home;
 use crate::last_chunks::chunk_ends;
 use crate::live_roots::live_roots;
-use crate::mail::Mail;
 use crate::pool::SharedPool;
-use crate::queue::{MailPass, pop};
 use crate::seat::{PoolSeat, TableSeat};
 use crate::spares::Spares;
 use crate::went::PoolEnd;
-use pool_law::{Items, Shape};
+use pool_law::Items;
 use pool_table::PoolTable;
 use std::alloc::Global;
 use std::mem::ManuallyDrop;
-use std::sync::Wait;
 
 impl SharedPool {
     /// Closes the pool with the seats of all lanes, in order, which have nothing in hand, and tells
     /// what stands then: the chunks that are in a list, and the sampled roots that are live.
     ///
     /// It takes its memory first. After want of memory the pool and the seats come back as they
-    /// were. Else the letters that nobody fetched are taken out of the mails, and stay unfetched:
+    /// were. Else the letters that nobody fetched are dropped with the mails, and stay unfetched:
     /// the roots that they count are live. What caches and live roots still have goes back to the
-    /// arenas, which give the memory of all chunks back.
-    pub fn close<W: Wait>(
+    /// arenas, which give the memory of all chunks back. It waits for nobody.
+    pub fn close(
         self,
-        rt: &W,
         alloc: Global,
         seats: Vec<PoolSeat>,
     ) -> Result<PoolEnd, (SharedPool, Vec<PoolSeat>)>
@@ -54,10 +50,10 @@ impl SharedPool {
         };
         let SharedPool {
             table,
-            mails,
+            mails: _,
             layout,
         } = self;
-        let seat = joined(rt, &table, &mails, &layout.shape, seats);
+        let seat = joined(&table, seats);
         let (mut homes, words) = table.close_with(seat);
         let Spares {
             chunks,
@@ -84,16 +80,9 @@ impl SharedPool {
 }
 
 // The seat of the table that has the parts of all of these, in order.
-fn joined<W: Wait>(
-    rt: &W,
-    table: &PoolTable<Home>,
-    mails: &[Mail],
-    shape: &Shape,
-    mut seats: Vec<PoolSeat>,
-) -> TableSeat
+fn joined(table: &PoolTable<Home>, mut seats: Vec<PoolSeat>) -> TableSeat
     requires some_seat { 0 < length seats.items }
     requires apart { AreApart table.now (map (λ s. s.seat) seats.items) }
-    requires ends { All (HasFetches mails.now shape.now) seats.items }
     ensures own { IsSeatOf table.now result }
     ensures outside { IsOutside result }
     ensures settled { IsSettled table.now result }
@@ -103,50 +92,22 @@ fn joined<W: Wait>(
     let Some(first) = seats.pop() else {
         unreachable!()
     };
-    let mut whole = bare(rt, mails, shape, first);
+    let mut whole = bare(first);
     while let Some(seat) = seats.pop() {
-        let seat = bare(rt, mails, shape, seat);
-        table.join(&mut whole, seat);
+        table.join(&mut whole, bare(seat));
     }
     seats.destroy_empty();
     whole
 }
 
-// The table's seat of a lane, whose mails are emptied.
-fn bare<W: Wait>(rt: &W, mails: &[Mail], shape: &Shape, seat: PoolSeat) -> TableSeat
-    requires ends { HasFetches mails.now shape.now seat }
+// The table's seat of a lane, without its ends of the mails.
+fn bare(seat: PoolSeat) -> TableSeat
     ensures { result ≡ seat.seat }
 {
     let PoolSeat {
         seat,
         posts: _,
-        fetches,
+        fetches: _,
     } = seat;
-    let Some(lane) = seat.number() else {
-        unreachable!()
-    };
-    empty_all(rt, mails, shape.lanes, lane, fetches);
     seat
-}
-
-// Takes the letters out of all mails to a lane, with its ends of them.
-fn empty_all<W: Wait>(rt: &W, mails: &[Mail], lanes: u32, lane: u32, mut ends: Vec<MailPass>)
-    requires lanes { lane < lanes × (lanes ≤ 16) }
-    requires many { length mails.now ≡ lanes * lanes }
-    requires ends { AreFetchesOf mails.now lanes lane ends.items }
-{
-    for from in 0..lanes {
-        empty(
-            rt,
-            &mails[(from * lanes + lane) as usize],
-            &mut ends[from as usize],
-        );
-    }
-}
-
-// Takes the letters out of a mail. They stay unfetched.
-fn empty<W: Wait>(rt: &W, mail: &Mail, pass: &mut MailPass)
-    requires end { IsFetchesOf mail.now pass.old }
-{
-    while let Some(_letter) = pop(rt, &mail.queue, pass) {}
 }

@@ -10,6 +10,7 @@ mod counts;
 mod dealing;
 mod emptying;
 mod home;
+mod in_place;
 mod last_chunks;
 mod laws;
 mod live_roots;

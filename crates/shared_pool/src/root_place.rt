@@ -50,7 +50,7 @@ impl Model for RootPlace {
 impl Root {
     // Lays bytes over those that are there, from an offset on.
     #[inline]
-    fn lay(&mut self, offset: u32, bytes: &[u8])
+    fn set(&mut self, offset: u32, bytes: &[u8])
         requires { offset + length bytes.now ≤ length self.old.piece.bytes }
         ensures { let laid = laid_over self.old.piece.bytes offset bytes.now in
             self.new ≡ record self.old { piece = with_bytes self.old.piece laid } }
@@ -62,7 +62,7 @@ impl Root {
 
     // Copies bytes out, from an offset on.
     #[inline]
-    fn copy(&self, offset: u32, out: &mut [u8])
+    fn get(&self, offset: u32, out: &mut [u8])
         requires { offset + length out.old ≤ length self.now.piece.bytes }
         ensures { out.new ≡ bytes_at self.now.piece.bytes offset (length out.old) }
     {
@@ -92,7 +92,7 @@ impl Root {
 
     // Records an access.
     #[inline]
-    fn record(&mut self, access: Access)
+    pub(crate) fn record(&mut self, access: Access)
         requires { self.old.handle.tracker.dropped < 2 ^ 63 }
         ensures { let tracker = with_access self.old.handle.tracker access in
             self.new ≡ record self.old { handle = with_tracker self.old.handle tracker } }
@@ -124,7 +124,7 @@ impl RootPlace {
         let Some(root) = &mut self.present else {
             unreachable!()
         };
-        root.lay(offset, bytes);
+        root.set(offset, bytes);
         let len = root.count(bytes);
         root.record(Access::Set { lane, offset, len });
     }
@@ -140,7 +140,7 @@ impl RootPlace {
         let Some(root) = &mut self.present else {
             unreachable!()
         };
-        root.copy(offset, out);
+        root.get(offset, out);
         let len = root.count(out);
         root.record(Access::Get { lane, offset, len });
     }

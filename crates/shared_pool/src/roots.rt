@@ -1,12 +1,14 @@
 //! Roots: their births, the accesses to their bytes, and their ends.
 
-ghost use Rattle.std.specs.Prelude.{◌≡◌, ℕ, ◌+◌, ◌^◌, ◌<◌, ◌≤◌, false, List, length, IfOk, IfErr};
+ghost use Rattle.std.specs.Prelude.{◌≡◌, ℕ, ◌+◌, ◌^◌, ◌<◌, ◌≤◌, false, List, length, IfOk, IfErr, sum_by};
 ghost use Rattle.std.specs.Fn.{FnOnceReturnsAt};
+ghost use Rattle.pool_law.specs.Roots.{bytes_at};
 ghost use Rattle.pool_law.specs.declared.note.Did.{Did};
 ghost use Rattle.pool_law.specs.declared.note.Object.TheVariants.{Root};
 ghost use Rattle.pool_law.specs.declared.note.RefDid.TheVariants.{Born, Vacated};
 ghost use Rattle.pool_table.specs.Capacities.{knows_of};
 ghost use Rattle.pool_table.specs.Counts.{HasCount};
+ghost use Rattle.pool_table.specs.Lone.{IsLone, names, own_bytes};
 ghost use Rattle.shared_pool.specs.SeatViews.{view_of, HasView, SameSeat};
 ghost use Rattle.shared_pool.specs.Answers.{IfDid, IfHeld};
 ghost use Rattle.shared_pool.specs.Holding.{HoldsRegion, HoldsHandle};
@@ -52,6 +54,8 @@ impl SharedPool {
         ensures did { IsNotedWith self.now seat.old seat.new result.1 result.0
             (birth result.1 region.id watch) Born (view_of seat.old).moves }
         ensures counts { HasCount result.1 (view_of seat.new) }
+        ensures lone { IsLone result.1 (view_of seat.new) }
+        ensures fresh { sum_by (names result.1) (view_of seat.old).own.notes ≡ 0 }
         ensures uses { region.id.uses < 2 ^ 62 }
     {
         match self.try_birth(seat, handle, region, capacity, watch) {
@@ -90,6 +94,9 @@ impl SharedPool {
             IsNotedWith self.now seat.old seat.new born.1 born.0
             (birth born.1 region.id watch) Born (view_of seat.old).moves) }
         ensures counts { IfOk result (λ born. HasCount born.1 (view_of seat.new)) }
+        ensures lone { IfOk result (λ born. IsLone born.1 (view_of seat.new)) }
+        ensures fresh { IfOk result (λ born.
+            sum_by (names born.1) (view_of seat.old).own.notes ≡ 0) }
         ensures uses { region.id.uses < 2 ^ 62 }
         ensures back { IfErr result (λ worn. (worn.handle ≡ handle) × (worn.region ≡ region)
             × HasView seat.new (view_of seat.old)) }
@@ -175,6 +182,10 @@ impl SharedPool {
         ensures did { IfDid result (λ number done.
             IsNoted self.now seat.old seat.new (Root root.place) number
             (access root (Did.Get offset out.new))) }
+
+        // A seat that bore the root and posted it to nobody reads what its own notes laid.
+        ensures lone { IfDid result (λ number done. IsLone root (view_of seat.old) →
+            out.new ≡ bytes_at (own_bytes root (view_of seat.old)) offset (length out.new)) }
         ensures held { IfHeld result (λ held back. (out.new ≡ out.old)
             × FoundBusy self.now (Root root.place) mark seat.old seat.new held) }
     {
@@ -209,6 +220,11 @@ impl SharedPool {
             × FnOnceReturnsAt F.FnOnce f bytes answer
             × IsNoted self.now seat.old seat.new (Root root.place) number
             (access root (Did.Get offset bytes))) }
+
+        // For a seat that bore the root and posted it to nobody these are what its own notes laid.
+        ensures lone { IfDid result (λ number answer. IsLone root (view_of seat.old) →
+            FnOnceReturnsAt F.FnOnce f
+            (bytes_at (own_bytes root (view_of seat.old)) offset len) answer) }
         ensures held { IfHeld result (λ held back. (back ≡ f)
             × FoundBusy self.now (Root root.place) false seat.old seat.new held) }
     {

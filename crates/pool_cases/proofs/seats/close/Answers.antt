@@ -4,7 +4,7 @@ use Rattle.seat_work.proofs.Trials.{both_done}
 use Rattle.pool_cases.proofs.seats.close.Goals as goal
 
 pub close-requires : goal.close-requires
-close-requires g c =
+close-requires c =
     let pool = c.args.pool in let a = c.args.first in let b = c.args.second in let q = c.requires in
     let items = c.push_reserved-2.ensures.items ∙ ap (λ xs. xs ++ b ∷ [])
     (c.push_reserved.ensures.items ∙ ap (λ xs. xs ++ a ∷ []) q.spare.0) in

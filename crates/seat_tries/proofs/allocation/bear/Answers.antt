@@ -1,4 +1,4 @@
-use Rattle.std.proofs.Common.{refl, sym, ap, subst, arith}
+use Rattle.std.proofs.Common.{sym, ap, subst, arith}
 use Rattle.handle_bin.specs.Bins.{HandleValue}
 use Rattle.pool_law.specs.declared.id.Region.{Region}
 use Rattle.seat_work.specs.Answers.{with_both}
@@ -7,7 +7,7 @@ use Rattle.seat_work.specs.Hands.{IsHandle, IsRegion}
 use Rattle.seat_work.specs.Works.{Works}
 use Rattle.seat_work.proofs.Calls.{born_root}
 use Rattle.seat_work.proofs.Holds.{holds_handle, holds_region, region_stays}
-use Rattle.seat_work.proofs.Later.{born_with, later_has, later_none, later_on, later_with}
+use Rattle.seat_work.proofs.Later.{born_with, later_born, later_has, later_none, later_on}
 use Rattle.seat_work.proofs.Proceeding.{proceeds_none, works_same}
 use Rattle.seat_tries.proofs.Goings.{goes_then, leaves_none, works_less}
 use Rattle.seat_tries.proofs.allocation.bear.Goals as goal
@@ -30,13 +30,14 @@ returns-in-Ok-clause-goes c =
     leaves_none pool (once_more root) 1 3 old new (omega arith)
     (born_root pool old new born.seat root c.args.own.place number c.args.piece.id c.args.watch
     (works_less pool hand 3 0 1 0 old works (omega arith) (omega arith)) born.did born.root.0)
-    (later_with pool old new born.same works.seat born.seat root number _ _ _ 0 born.did (omega arith) refl)
+    (later_born pool old new born.same works.seat born.seat root number c.args.piece.id c.args.watch _ born.did
+    (omega arith) born.fresh)
 
 pub returns-in-Ok-clause-born : goal.returns-in-Ok-clause-born
 returns-in-Ok-clause-born c =
     let born = c.in-Ok.ensures {u = tt} in
     born_with c.args.pool.now c.args.seat.now c.try_birth.new.seat born.same c.requires.works.seat born.seat
-    c.in-Ok.root c.in-Ok._number _ _ born.did (omega arith) refl
+    c.in-Ok.root c.in-Ok._number c.args.piece.id c.args.watch _ born.did (omega arith) born.fresh born.lone
 
 pub put_away-requires-clause-works : goal.put_away-requires-clause-works
 put_away-requires-clause-works c =

@@ -4,6 +4,8 @@ use Rattle.pool_law.specs.declared.note.Object.TheVariants.{Root}
 use Rattle.pool_table.specs.declared.views.SeatView.{SeatView}
 use Rattle.pool_table.specs.Capacities.{knows_of}
 use Rattle.pool_table.specs.Counts.{HasCount}
+use Rattle.pool_table.specs.Lone.{IsLone, own_bytes}
+use Rattle.pool_law.specs.Roots.{bytes_at}
 use Rattle.shared_pool.specs.SeatViews.{view_of}
 use Rattle.shared_pool.specs.RootNotes.{access}
 use Rattle.seat_work.specs.Changes.{no_change}
@@ -23,6 +25,7 @@ returns-in-Did g c =
       counts = it.counts;
       len = did.ensures.len;
       noted = (did._number, it.noted);
+      lone = did.ensures.lone;
     }
 
 pub wait_to_get-requires-clause-works : goal.wait_to_get-requires-clause-works
@@ -57,4 +60,7 @@ returns-in-Held g c =
         noted_same a.pool.now a.seat.now mid next.new.seat noted.0 (λ v. Root a.root.place)
             (access a.root (Did.Get a.offset next.new.out)) same noted.1,
       );
+      lone =
+          λ lone. next.ensures.lone (subst (λ (v : SeatView). IsLone a.root v) (sym same) lone)
+          ∙ ap (λ (v : SeatView). bytes_at (own_bytes a.root v) a.offset (length next.new.out)) same;
     }

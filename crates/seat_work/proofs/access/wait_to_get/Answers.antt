@@ -1,8 +1,10 @@
-use Rattle.std.proofs.Common.{ℕ, ◌+◌, ◌≤◌, ◌∙◌, length, sym, subst}
+use Rattle.std.proofs.Common.{ℕ, ◌+◌, ◌≤◌, ◌∙◌, length, sym, subst, ap}
 use Rattle.pool_law.specs.declared.note.Did.{Did}
 use Rattle.pool_table.specs.declared.views.SeatView.{SeatView}
 use Rattle.pool_table.specs.Capacities.{knows_of}
 use Rattle.pool_table.specs.Counts.{HasCount}
+use Rattle.pool_table.specs.Lone.{IsLone, own_bytes}
+use Rattle.pool_law.specs.Roots.{bytes_at}
 use Rattle.shared_pool.specs.SeatViews.{view_of}
 use Rattle.seat_work.proofs.Accesses.{accessed, get_quiet}
 use Rattle.seat_work.proofs.access.wait_to_get.Goals as goal
@@ -29,4 +31,7 @@ returns-in-Did g c =
       counts = it.counts;
       len = did.ensures.len ∙ c.loop.invariant.2;
       noted = (did._number, it.noted);
+      lone =
+          λ lone. did.ensures.lone (subst (λ (v : SeatView). IsLone a.root v) (sym inv.1) lone)
+          ∙ ap (λ (v : SeatView). bytes_at (own_bytes a.root v) a.offset (length out)) inv.1;
     }

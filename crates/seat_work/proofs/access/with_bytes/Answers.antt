@@ -4,6 +4,8 @@ use Rattle.pool_law.specs.declared.note.Did.{Did}
 use Rattle.pool_table.specs.declared.views.SeatView.{SeatView}
 use Rattle.pool_table.specs.Capacities.{knows_of}
 use Rattle.pool_table.specs.Counts.{HasCount}
+use Rattle.pool_table.specs.Lone.{IsLone, own_bytes}
+use Rattle.pool_law.specs.Roots.{bytes_at}
 use Rattle.shared_pool.specs.SeatViews.{view_of}
 use Rattle.seat_work.proofs.Accesses.{accessed, get_quiet}
 use Rattle.seat_work.proofs.access.with_bytes.Goals as goal
@@ -38,4 +40,10 @@ returns-in-Did g c =
         subst (λ f. FnOnceReturnsAt g.F.FnOnce f bytes c.in-Did.answer) inv.2 did.did.2,
         it.noted,
       );
+      lone =
+          λ lone. subst (λ f. FnOnceReturnsAt g.F.FnOnce f
+          (bytes_at (own_bytes a.root (view_of a.seat.now)) a.offset a.len) c.in-Did.answer) inv.2
+          (subst (λ (v : SeatView). FnOnceReturnsAt g.F.FnOnce c.loop.f
+          (bytes_at (own_bytes a.root v) a.offset a.len) c.in-Did.answer) inv.1
+          (did.lone (subst (λ (v : SeatView). IsLone a.root v) (sym inv.1) lone)));
     }

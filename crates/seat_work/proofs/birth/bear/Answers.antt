@@ -1,11 +1,11 @@
-use Rattle.std.proofs.Common.{refl, sym, subst, arith}
+use Rattle.std.proofs.Common.{sym, subst, arith}
 use Rattle.handle_bin.specs.Bins.{HandleValue}
 use Rattle.pool_law.specs.declared.id.Region.{Region}
 use Rattle.seat_work.specs.Works.{Works}
 use Rattle.seat_work.specs.Answers.{with_both}
 use Rattle.seat_work.proofs.Calls.{born_root}
 use Rattle.seat_work.proofs.Holds.{holds_handle, holds_region}
-use Rattle.seat_work.proofs.Later.{born_with, later_has, later_with}
+use Rattle.seat_work.proofs.Later.{born_with, later_born, later_has}
 use Rattle.seat_work.proofs.Proceeding.{proceeds_none}
 use Rattle.seat_work.proofs.birth.bear.Goals as goal
 
@@ -29,13 +29,13 @@ pub returns-in-Ok-clause-noted : goal.returns-in-Ok-clause-noted
 returns-in-Ok-clause-noted c =
     let born = c.in-Ok.ensures {u = tt} in
     born_with c.args.pool.now c.args.seat.now c.try_birth.new.seat born.same c.requires.works.seat born.seat
-    c.in-Ok.root c.in-Ok._number _ _ born.did (omega arith) refl
+    c.in-Ok.root c.in-Ok._number c.args.region.id c.args.watch _ born.did (omega arith) born.fresh born.lone
 
 pub returns-in-Ok-clause-later : goal.returns-in-Ok-clause-later
 returns-in-Ok-clause-later c =
     let born = c.in-Ok.ensures {u = tt} in
-    later_with c.args.pool.now c.args.seat.now c.try_birth.new.seat born.same c.requires.works.seat born.seat
-    c.in-Ok.root c.in-Ok._number _ _ _ 0 born.did (omega arith) refl
+    later_born c.args.pool.now c.args.seat.now c.try_birth.new.seat born.same c.requires.works.seat born.seat
+    c.in-Ok.root c.in-Ok._number c.args.region.id c.args.watch _ born.did (omega arith) born.fresh
 
 pub returns-in-Err-clause-kept : goal.returns-in-Err-clause-kept
 returns-in-Err-clause-kept c =

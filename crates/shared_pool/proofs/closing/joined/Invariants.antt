@@ -8,14 +8,14 @@ use Rattle.shared_pool.proofs.JoinedParts.{IsReady}
 use Rattle.shared_pool.proofs.closing.joined.Given as goal
 
 abbrev pub invariant-loop-seat : goal.invariant-loop-seat
-invariant-loop-seat g l =
+invariant-loop-seat l =
     record {
       own : IsSeatOf l.table l.whole;
       outside : IsOutside l.whole;
       settled : IsSettled l.table l.whole;
-      ready : All (IsReady l.table l.mails l.shape) l.seats.items;
+      ready : All (IsReady l.table) l.seats.items;
       parts : parts_of (view_of l.whole) ++ parts_in (reverse l.seats.items) ≡ parts_in l.fn.seats.items;
     }
 
 abbrev pub decreases-loop-seat : goal.decreases-loop-seat
-decreases-loop-seat g l = goal.left-loop-seat g l
+decreases-loop-seat l = goal.left-loop-seat l

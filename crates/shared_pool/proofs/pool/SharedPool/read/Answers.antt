@@ -5,6 +5,7 @@ use Rattle.pool_law.specs.declared.report.Access.{Access}
 use Rattle.std.specs.Prelude.{length}
 use Rattle.shared_pool.specs.RootNotes.{access}
 use Rattle.shared_pool.proofs.Endings.{ends, made}
+use Rattle.shared_pool.proofs.LoneSeats.{lone_get}
 use Rattle.shared_pool.proofs.SeatCalls.{seat_did}
 use Rattle.shared_pool.proofs.SeatEnds.{held_seat}
 use Rattle.shared_pool.proofs.PlaceHomes.{accessible, accessing, counts_root}
@@ -60,3 +61,15 @@ returns-in-Err-clause-seat c =
     held_seat c.args.self.now (Root c.args.root.place) c.args.mark c.args.seat.now
     (record c.args.seat.now { seat = c.claim_place.new.seat }) c.in-Err.held c.requires.seat c.in-Err.ensures.same refl
     refl c.in-Err.ensures.held
+
+pub returns-clause-lone : goal.returns-clause-lone
+returns-clause-lone c =
+    let l = c.args.self.now.table.layout in let root = c.args.root in let got = c.in-Ok.ensures.got in let seat =
+    c.requires.seat in let call = c.get in
+    λ lone. lone_get l root c.args.seat.now.seat c.claim_place.new.seat c.in-Ok.section got seat.lane c.args.offset
+    call.new.out c.requires.counts seat.number
+    (accessing l root c.args.seat.now.seat c.claim_place.new.seat c.in-Ok.section call.new.section got seat.setting
+    seat.settled c.lane_of-lane.result (Did.Get c.args.offset c.get.new.out)
+    (Access.Get c.lane_of-lane.result c.args.offset (length c.get.new.out)) c.requires.counts
+    c.lane_of-lane.ensures.number (λ k. refl) refl refl refl refl call.ensures.same.0 call.ensures.same.1
+    call.ensures.place call.ensures.did).follows lone

@@ -6,7 +6,7 @@ use Rattle.pool_table.specs.Hands.{InHand, HasRegion}
 use Rattle.pool_table.specs.Seats.{view_of}
 use Rattle.shared_pool.specs.PlaceSteps.{used}
 use Rattle.shared_pool.specs.RootNotes.{birth}
-use Rattle.shared_pool.proofs.BirthCalls.{may_leave, found_worn, may_bear_here, birth_ends, birth_hand, birth_awaited, birth_did}
+use Rattle.shared_pool.proofs.BirthCalls.{may_leave, found_worn, may_bear_here, birth_ends, birth_hand, birth_awaited, birth_did, birth_lone, birth_fresh}
 use Rattle.shared_pool.proofs.SeatCalls.{seat_did_with, seat_idled}
 use Rattle.shared_pool.proofs.pool.SharedPool.try_birth.Goals as goal
 
@@ -118,6 +118,33 @@ returns-clause-did c =
     c.note-number.new.seat c.note-number.result c.note-number.ensures.number
     c.note-number.ensures.noted c.birth-root.new.seat c.birth-root.result
     c.birth-root.ensures.root c.birth-root.ensures.noted
+
+pub returns-clause-lone : goal.returns-clause-lone
+returns-clause-lone c =
+    let call = c.bear-root in
+    birth_lone c.args.self.now c.args.seat.now c.claim_place.new.seat c.place-place.result c.requires.seat
+    c.in-Ok.section
+    c.is_worn.new.section c.is_worn.ensures.same c.in-Ok.ensures.got c.args.handle c.place-place.ensures
+    c.requires.handle
+    (c.is_worn.ensures.young c.if-is_worn.false) c.args.region c.requires.region c.args.capacity
+    c.requires.capacity c.args.watch call.new.section call.result call.ensures.same call.ensures.place call.ensures.root
+    call.ensures.next call.ensures.born
+    c.note-number.new.seat c.note-number.result c.note-number.ensures.number
+    c.note-number.ensures.noted c.birth-root.new.seat c.birth-root.result
+    c.birth-root.ensures.root c.birth-root.ensures.noted
+
+pub returns-clause-fresh : goal.returns-clause-fresh
+returns-clause-fresh c =
+    let call = c.bear-root in
+    birth_fresh c.args.self.now c.args.seat.now c.claim_place.new.seat c.place-place.result c.requires.seat
+    c.in-Ok.section
+    c.is_worn.new.section c.is_worn.ensures.same c.in-Ok.ensures.got c.args.handle c.place-place.ensures
+    c.requires.handle
+    (c.is_worn.ensures.young c.if-is_worn.false) c.args.region c.requires.region c.args.capacity
+    c.requires.capacity c.args.watch call.new.section call.result call.ensures.same call.ensures.place call.ensures.root
+    call.ensures.next call.ensures.born
+    c.note-number.new.seat c.note-number.result c.note-number.ensures.number
+    c.note-number.ensures.noted c.birth-root.result c.birth-root.ensures.root
 
 pub returns-clause-uses : goal.returns-clause-uses
 returns-clause-uses c = c.in-Ok.ensures.got.learned.uses c.args.region.id c.requires.region.hand

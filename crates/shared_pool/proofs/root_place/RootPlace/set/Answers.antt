@@ -16,6 +16,6 @@ returns c = let lane = c.args.lane in let at = c.args.offset in let r = c.in-Som
     (ap root_seen c.record.ensures
     ∙ ap (λ (q : Root). root_seen (record q
     { handle = with_tracker q.handle (with_access q.handle.tracker (Access.Set lane at c.count-len.result)) }))
-    c.lay.ensures
+    c.set.ensures
     ∙ ap (λ (k : ℕ). accessed (root_seen r) (laid_over r.piece.bytes at c.args.bytes.now) (Access.Set lane at k))
     c.count-len.ensures)

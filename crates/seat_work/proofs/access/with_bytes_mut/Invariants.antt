@@ -1,0 +1,7 @@
+use Rattle.std.proofs.Common.{◌≡◌}
+use Rattle.shared_pool.specs.SeatViews.{view_of}
+use Rattle.shared_pool.specs.Seats.{IsPoolSeat}
+use Rattle.seat_work.proofs.access.with_bytes_mut.Given as goal
+
+abbrev pub invariant-loop : goal.invariant-loop
+invariant-loop g l = IsPoolSeat l.pool l.seat × (view_of l.seat ≡ view_of l.initial.seat) × (l.f ≡ l.fn.f)
