@@ -1,5 +1,5 @@
 -- What is told of a stream is what the source gave.
-use Rattle.std.proofs.Common.{◌≡◌, ℕ, false, List, length, map, refl, ap, sym, ◌∙◌, subst, All, Option}
+use Rattle.std.proofs.Common.{◌≡◌, ℕ, false, List, map, refl, ap, sym, ◌∙◌, subst, All, Option}
 use Rattle.pool_law.specs.declared.run.Shape.{Shape}
 use Rattle.shared_pool.specs.declared.seat.PoolSeat.{PoolSeat}
 use Rattle.shared_pool.specs.Closing.{AreWhole}
@@ -23,7 +23,7 @@ use Rattle.frame_cut.specs.Tellings.{HasTold, Tells}
 use Rattle.frame_cut.proofs.Together.{AreTogether, tells_all}
 
 module _ {S : Type 0} (left : S → Option (List ℕ)) (faults : S → ℕ) (shop : Shop) (old new : S) (first d : Desk)
-    (came : DeskCame left faults shop old new first d) (block : ℕ) (size : length first.block.items ≡ block) where
+    (came : DeskCame left faults shop old new first d) (block : ℕ) (size : first.block ≡ block) where
   abbrev src : SourceSpan
   src = source_span left faults old new
 
@@ -31,8 +31,8 @@ module _ {S : Type 0} (left : S → Option (List ℕ)) (faults : S → ℕ) (sho
   taken ok = record { bytes_are = came.bytes ok; faults = came.faults_are.none ok }
 
   -- a read that failed
-  pub told_fault : (told : StreamEnd) → told.verdict ≡ d.verdict → told.verdict ≡ Fault → HasTold told.verdict told
-    block src
+  pub told_fault : (told : StreamEnd) → told.verdict ≡ d.verdict → told.verdict ≡ Fault
+      → HasTold told.verdict told block src
   told_fault told same fault =
       subst (λ v. HasTold v told block src) (sym fault)
       (came.faults_are.fault (ap is_fault (sym same ∙ fault)))

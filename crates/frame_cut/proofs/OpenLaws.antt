@@ -1,5 +1,5 @@
 -- What a run begins with stands: a pool, the workers and the cutter, before anything is done.
-use Rattle.std.proofs.Common.{◌≡◌, ℕ, ◌+◌, ◌%◌, ◌==◌, ◌<◌, ◌≤◌, Bool, true, false, List, [], length, take, vec_capacity, refl, sym, ap, ◌∙◌, subst, arith, Some}
+use Rattle.std.proofs.Common.{◌≡◌, ℕ, ◌+◌, ◌%◌, ◌==◌, ◌<◌, ◌≤◌, Bool, true, false, List, [], length, vec_capacity, refl, sym, ap, ◌∙◌, subst, arith, Some}
 use Rattle.std.specs.Prelude.{HoldsAt, if◌then◌else◌, slice_get}
 use Rattle.std.proofs.lemmas.Option.{get_or_from_slice_get, slice_get_within}
 use Rattle.crossbeam_queue.specs.Passes.{Pass, view}
@@ -37,7 +37,7 @@ use Rattle.frame_cutter.specs.declared.stage.Stage.TheVariants.{Filling}
 use Rattle.frame_cutter.specs.declared.stage.TheConstants.{MOST_SLICES}
 use Rattle.frame_cutter.specs.Sends.{AreSlices, HasSent, WriteFresh}
 use Rattle.frame_cutter.specs.Stages.{jobs_at, pieces_at, roots_at}
-use Rattle.frame_cutter.specs.Standing.{CountsJust, DeskStands, HasBlock, HasServed, IsBetween, IsUnderway, StandsAt}
+use Rattle.frame_cutter.specs.Standing.{CountsJust, DeskStands, HasBlock, HasServed, IsUnderway, StandsAt}
 use Rattle.frame_cut.specs.declared.openings.Opened.{Opened}
 use Rattle.frame_cut.specs.declared.openings.TheConstants.{ORDER}
 use Rattle.frame_cut.specs.Openings.{AreHired, AreLines, IsNewDesk, IsNewPool, IsNewWorker, layout_of}
@@ -176,14 +176,14 @@ nothing_taken true = refl
 nothing_taken false = refl
 
 module _ (workers : ℕ) (o : Opened) (seats : List PoolSeat) (own : PoolSeat)
-    (senders receivers : List (Pass Job JobLog)) (block : List ℕ) (class : ℕ) (some : 0 < workers)
+    (senders receivers : List (Pass Job JobLog)) (block class : ℕ) (some : 0 < workers)
     (new : IsNewPool workers o.pool seats)
     (lines : AreLines workers o.queues.items senders receivers)
     (hired : AreHired workers seats receivers workers o.workers.items)
     (own_at : slice_get seats workers ≡ Some own)
     (desk : IsNewDesk workers own senders block class o.desk)
-    (long : 0 < length block) (short : length block ≤ 65536)
-    (class_at : class_of (of_pages ORDER DEFAULT_PAGE) (length block) ≡ Some class)
+    (long : 0 < block) (short : block ≤ 65536)
+    (class_at : class_of (of_pages ORDER DEFAULT_PAGE) block ≡ Some class)
     (shop : Shop) (is : IsShopOf shop o) where
   abbrev d : Desk
   d = o.desk
@@ -221,12 +221,11 @@ module _ (workers : ℕ) (o : Opened) (seats : List PoolSeat) (own : PoolSeat)
 
   has_block : HasBlock shop d
   has_block = record {
-    some = (let a = ap (λ (b : List ℕ). length b) desk.block_is in omega (arith, a, long));
-    few = (let a = ap (λ (b : List ℕ). length b) desk.block_is in omega (arith, a, short));
-    filled = (let a = desk.filled in omega (arith, a));
+    some = (let a = desk.block_is in omega (arith, a, long));
+    few = (let a = desk.block_is in omega (arith, a, short));
     class =
-        (λ i. class_of (geometry_of (is.pool i).table.layout.shape) (length (desk.block_is i)))
-        ∙ ap (λ (l : Layout). class_of (geometry_of l.shape) (length block)) (layout_is workers o.pool seats new)
+        (λ i. class_of (geometry_of (is.pool i).table.layout.shape) (desk.block_is i))
+        ∙ ap (λ (l : Layout). class_of (geometry_of l.shape) block) (layout_is workers o.pool seats new)
         ∙ class_at
         ∙ ap (λ (n : ℕ). Some n) (sym desk.class_is);
   }
@@ -258,13 +257,7 @@ module _ (workers : ℕ) (o : Opened) (seats : List PoolSeat) (own : PoolSeat)
       }
 
   begins : IsUnderway Filling d [] [] []
-  begins =
-      let none : take d.filled d.block.items ≡ [] = ap (λ (n : ℕ). take n d.block.items) desk.filled in
-      let between : IsBetween d [] [] [] =
-      record { frames = frames_of-nil; cut = desk.cut; healthy = desk.verdict } in
-      let room : d.filled < length d.block.items =
-      (let a = desk.filled in let b = ap (λ (x : List ℕ). length x) desk.block_is in omega (arith, a, b, long)) in
-      ([], (sym none, room, desk.last, between, (0, omega arith)))
+  begins = (desk.last, record { frames = frames_of-nil; healthy = desk.verdict }, desk.cut, (0, omega arith))
 
   counts_just : CountsJust (roots_at d.stage d.slices.items) (view_of d.seat)
   counts_just root =
@@ -293,21 +286,20 @@ module _ (workers : ℕ) (o : Opened) (seats : List PoolSeat) (own : PoolSeat)
 -- ---- All of it.
 
 pub is_open : (workers : ℕ) (o : Opened) (seats : List PoolSeat) (own : PoolSeat)
-    (senders receivers : List (Pass Job JobLog)) (block : List ℕ) (class size : ℕ) → 0 < workers
+    (senders receivers : List (Pass Job JobLog)) (block class : ℕ) → 0 < workers
     → IsNewPool workers o.pool seats → AreLines workers o.queues.items senders receivers
     → AreHired workers seats receivers workers o.workers.items → slice_get seats workers ≡ Some own
-    → IsNewDesk workers own senders block class o.desk → 0 < length block → length block ≤ 65536
-    → length block ≡ size → class_of (of_pages ORDER DEFAULT_PAGE) (length block) ≡ Some class
+    → IsNewDesk workers own senders block class o.desk → 0 < block → block ≤ 65536
+    → class_of (of_pages ORDER DEFAULT_PAGE) block ≡ Some class
     → (o.seats.items ≡ []) × (workers + 1 ≤ vec_capacity o.seats)
-    → (o.told.items ≡ []) × (workers ≤ vec_capacity o.told) → IsOpen workers size o
-is_open w o seats own senders receivers block class size some new lines hired own_at desk long short is class_at left
-    told =
+    → (o.told.items ≡ []) × (workers ≤ vec_capacity o.told) → IsOpen workers block o
+is_open w o seats own senders receivers block class some new lines hired own_at desk long short class_at left told =
     record {
       cutter = λ shop at.
           desk_stands w o seats own senders receivers block class some new lines hired own_at desk long short class_at
           shop at;
       count = desk.workers_are;
-      long = ap (λ (b : List ℕ). length b) desk.block_is ∙ is;
+      long = desk.block_is;
       some = some;
       many = hired.many;
       hired = λ shop at k x e. each_hired w o seats senders receivers new lines hired shop at k x e;

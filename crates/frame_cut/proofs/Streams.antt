@@ -95,8 +95,8 @@ module _ {S : Type 0} (left : S → Option (List ℕ)) (faults : S → ℕ) (sho
             (faulty told.verdict sound)
 
         -- what is answered
-        pub run_told : {B F G : Type 0} (closed : Result B F) (answer : Result StreamEnd G) → OnOk closed (OnErr ended
-          ⊥)
+        pub run_told : {B F G : Type 0} (closed : Result B F) (answer : Result StreamEnd G)
+            → OnOk closed (OnErr ended ⊥)
             → OnOk closed (AreWhole shape (parts_in seats)) → IfOk answer (λ a. a ≡ told)
             → OnOk answer (is_fault told.verdict ≡ false → OnErr closed ⊥)
             → IfOk answer (λ a. HasTold a.verdict a block src)

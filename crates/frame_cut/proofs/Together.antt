@@ -123,8 +123,8 @@ module _ (shop : Shop) (d : Desk) (ws : List Worker) (seats : List PoolSeat)
           all_tell shop d read desk over k w (omega (arith, within, all.many)) (all.stand k w e) (done_there k w e)
           (all.joins k w e) shape seats whole cutter_seat others_write (seat_of k w e)
 
-      module _ (told : StreamEnd) (hashes : told.hashes.items ≡ map (λ w. w.hashes) ws) (frames : told.frames ≡
-        d.frames)
+      module _ (told : StreamEnd) (hashes : told.hashes.items ≡ map (λ w. w.hashes) ws)
+          (frames : told.frames ≡ d.frames)
           (sound : d.verdict ≡ Whole) where
         verdict : HasVerdict Whole d read desk.handed
         verdict =

@@ -99,17 +99,17 @@ pub record AreHired
         (seat : PoolSeat) × ((jobs : Pass Job JobLog) × ((slice_get seats k ≡ Some seat)
         × (slice_get receivers k ≡ Some jobs) × IsNewWorker cutter k seat jobs w))
 
--- a cutter with this seat, these ends and this block, which did nothing yet
+-- a cutter with this seat, these ends and blocks of this size, which did nothing yet
 pub record IsNewDesk
-    (workers : ℕ) (seat : PoolSeat) (ends : List (Pass Job JobLog)) (block : List ℕ) (class : ℕ)
+    (workers : ℕ) (seat : PoolSeat) (ends : List (Pass Job JobLog)) (block : ℕ) (class : ℕ)
     (d : Desk) : Type 0
   where
     pub seat_is : d.seat ≡ seat
     pub workers_are : d.workers ≡ workers
     pub ends_are : d.ends.items ≡ ends
     pub cut : HasCut d.slicer [] []
-    pub block_is : d.block.items ≡ block
-    pub filled : d.filled ≡ 0
+    pub block_is : d.block ≡ block
+    pub finds : d.finds.items ≡ []
     pub last : d.last ≡ false
     pub class_is : d.class ≡ class
     pub turns : d.turns ≡ SEAT_TURNS

@@ -55,7 +55,7 @@ pub record IsHired (shop : Shop) (workers k : ℕ) (w : Worker) : Type 0 where
 pub record IsOpen (workers block : ℕ) (o : Opened) : Type 0 where
   pub cutter : (shop : Shop) → IsShopOf shop o → DeskStands shop o.desk []
   pub count : o.desk.workers ≡ workers
-  pub long : length o.desk.block.items ≡ block
+  pub long : o.desk.block ≡ block
   pub some : 0 < workers
   pub many : length o.workers.items ≡ workers
   pub hired : (shop : Shop) → IsShopOf shop o → (k : ℕ) (w : Worker) →

@@ -12,7 +12,6 @@ use frame_hash::{HashOf, Worker};
 use job_queue::{JobEnd, JobQueue, reunite};
 use shared_pool::{PoolSeat, SharedPool};
 use std::alloc::{AllocError, Global};
-use std::sync::Wait;
 
 /// What a stream came to, and what each worker told of its frames.
 #[derive(Drop)]
@@ -43,6 +42,7 @@ pub fn gather(
         HasGot desk.ends.items k w.jobs }
 {
     let Desk {
+        alloc: _,
         seat: own,
         mut ends,
         frames,
@@ -50,7 +50,7 @@ pub fn gather(
         workers: _,
         slicer: _,
         block: _,
-        filled: _,
+        finds: _,
         last: _,
         class: _,
         turns: _,
@@ -92,18 +92,13 @@ fn parts(worker: Worker) -> (PoolSeat, JobEnd, Vec<HashOf>)
 }
 
 /// Closes the pool, in which no root is live: no seat counts one, and no parcel is left.
-pub fn close<W: Wait>(
-    rt: &W,
-    alloc: Global,
-    pool: SharedPool,
-    seats: Vec<PoolSeat>,
-) -> Result<(), AllocError>
+pub fn close(alloc: Global, pool: SharedPool, seats: Vec<PoolSeat>) -> Result<(), AllocError>
     requires done { AreDone pool seats.items }
     requires spent { AreSpent seats.items }
     ensures whole { OnOk result (AreWhole pool.table.layout.shape (parts_in seats.items)) }
     ensures live { OnOk result (NoneIsLive (parts_in seats.items)) }
 {
-    match pool.close(rt, alloc, seats) {
+    match pool.close(alloc, seats) {
         Ok(_end) => Ok(()),
         Err((pool, seats)) => {
             pool.abandon(seats);

@@ -56,7 +56,6 @@ pub fn open(alloc: Global, options: CutOptions) -> Result<Opened, AllocError>
 {
     let count = options.workers as usize;
     let lines = new_lines(alloc, count)?;
-    let block = vec![in alloc; 0u8; options.block as usize]?;
     let class = class_for(alloc, options.block)?;
     let told = Vec::with_capacity(alloc, count)?;
     let workers = Vec::with_capacity(alloc, count)?;
@@ -69,7 +68,7 @@ pub fn open(alloc: Global, options: CutOptions) -> Result<Opened, AllocError>
             } = lines;
             let workers = hire(alloc, options.workers, &mut seats, receivers, workers);
             let seat = seats.remove(0);
-            let desk = new_desk(alloc, options.workers, seat, senders, block, class);
+            let desk = new_desk(alloc, options.workers, seat, senders, options.block, class);
             Ok(Opened {
                 pool,
                 queues,
@@ -209,18 +208,19 @@ fn new_desk(
     workers: u32,
     seat: PoolSeat,
     ends: Vec<JobEnd>,
-    block: Vec<u8>,
+    block: u32,
     class: u32,
 ) -> Desk
-    ensures { IsNewDesk workers seat ends.items block.items class result }
+    ensures { IsNewDesk workers seat ends.items block class result }
 {
     Desk {
+        alloc,
         seat,
         workers,
         ends,
         slicer: Slicer::new(),
         block,
-        filled: 0,
+        finds: Vec::new(alloc),
         last: false,
         class,
         turns: SEAT_TURNS,

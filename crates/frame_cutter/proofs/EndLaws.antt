@@ -74,7 +74,7 @@ module _ (d e : Desk) (same : e.last ≡ d.last) (block : e.block ≡ d.block) (
   verdict_same (Refused why) is = (
     met_same why d e same is.0,
     is.1,
-    subst (λ (b : Vec ℕ). StopsWithin (length b.items) read) (sym block) is.2,
+    subst (λ (n : ℕ). StopsWithin n read) (sym block) is.2,
   )
   verdict_same Fault is = tt
 
@@ -109,19 +109,19 @@ module _ (shop : Shop) (d : Desk) (read : List ℕ) (st : DeskStands shop d read
     pub lets_go : (seat : PoolSeat) (last : Bool) → RELEASE_TURNS ≤ d.turns
         → Proceeds shop.pool.now empty_hand RELEASE_TURNS 0 (once_less slice.root last) d.seat seat
         → IsLater shop.pool.now d.seat seat
-        → DeskStands shop (moved_to d seat left d.moves d.filled d.last d.slicer popped d.stage d.verdict) read
+        → DeskStands shop (moved_to d seat left d.moves d.finds d.last d.slicer popped d.stage d.verdict) read
     lets_go seat last enough proceeds later =
         subst (λ s. DeskStands shop
-        (moved_to d seat left d.moves d.filled d.last d.slicer popped s d.verdict) read) (sym letting)
-        (moved shop d read st seat left d.moves d.filled d.last d.slicer popped LettingGo d.verdict
-        (take (length popped.items) st.pieces) went lets-told read st.block.filled
+        (moved_to d seat left d.moves d.finds d.last d.slicer popped s d.verdict) read) (sym letting)
+        (moved shop d read st seat left d.moves d.finds d.last d.slicer popped LettingGo d.verdict
+        (take (length popped.items) st.pieces) went lets-told read
         (front_slices (view_of seat).own.notes (Some d.workers) popped.items slice st.pieces
         (subst (λ (vs : List ViewData). AreSlices (view_of seat).own.notes (Some d.workers) vs st.pieces) items
         (slices_then shop.pool.now d.workers left d.moves (roots_of popped.items) d.seat seat went
         d.slices.items st.pieces st.slices)))
         (let a = ap (λ (vs : List ViewData). length vs) items in let b = length-append popped.items (slice ∷ []) in
         omega (arith, a, b))
-        (verdict_same d (moved_to d seat left d.moves d.filled d.last d.slicer popped LettingGo d.verdict) refl refl
+        (verdict_same d (moved_to d seat left d.moves d.finds d.last d.slicer popped LettingGo d.verdict) refl refl
         read st.handed d.verdict verdict-is))
       where
         went : HasGone shop.pool.now d.workers left d.moves (roots_of popped.items) d.seat seat
@@ -150,17 +150,17 @@ module _ (shop : Shop) (d : Desk) (read : List ℕ) (st : DeskStands shop d read
     same_items = same ∙ sym none
 
     pub none_left : DeskStands shop
-        (moved_to d d.seat d.turns d.moves d.filled d.last d.slicer popped (Ending 0) d.verdict) read
+        (moved_to d d.seat d.turns d.moves d.finds d.last d.slicer popped (Ending 0) d.verdict) read
     none_left =
-        moved shop d read st d.seat d.turns d.moves d.filled d.last d.slicer popped (Ending 0) d.verdict st.pieces
+        moved shop d read st d.seat d.turns d.moves d.finds d.last d.slicer popped (Ending 0) d.verdict st.pieces
         (gone_none shop.pool.now d.workers d.turns d.moves (roots_at (Ending 0) popped.items) d.seat st.stands.works
         st.stands.lane st.fresh
         (subst (λ (vs : List ViewData). CountsJust (roots_of vs) (view_of d.seat)) (sym same_items) counts-before))
-        starts-told read st.block.filled
+        starts-told read
         (subst (λ (vs : List ViewData). AreSlices (view_of d.seat).own.notes (Some d.workers) vs st.pieces)
         (sym same_items) st.slices)
         (let a = ap (λ (vs : List ViewData). length vs) same_items in omega (arith, a)) (
-          verdict_same d (moved_to d d.seat d.turns d.moves d.filled d.last d.slicer popped (Ending 0) d.verdict) refl
+          verdict_same d (moved_to d d.seat d.turns d.moves d.finds d.last d.slicer popped (Ending 0) d.verdict) refl
               refl read st.handed d.verdict verdict-is,
           omega arith,
           no_pieces,
@@ -184,9 +184,9 @@ module _ (shop : Shop) (d : Desk) (read : List ℕ) (st : DeskStands shop d read
 
     pub over : DeskStands shop (record d { stage = Over }) read
     over =
-        moved shop d read st d.seat d.turns d.moves d.filled d.last d.slicer d.slices Over d.verdict st.pieces
+        moved shop d read st d.seat d.turns d.moves d.finds d.last d.slicer d.slices Over d.verdict st.pieces
         (gone_none shop.pool.now d.workers d.turns d.moves (roots_at Over d.slices.items) d.seat st.stands.works
         st.stands.lane st.fresh
         (subst (λ s. CountsJust (roots_at s d.slices.items) (view_of d.seat)) ending st.counts))
-        all-told read st.block.filled st.slices (omega arith)
+        all-told read st.slices (omega arith)
         (verdict_same d (record d { stage = Over }) refl refl read st.handed d.verdict ending-is.0, ending-is.2)

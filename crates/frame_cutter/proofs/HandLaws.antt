@@ -37,15 +37,15 @@ module _ (shop : Shop) (d : Desk) (read : List ℕ) (st : DeskStands shop d read
   -- the number of the frame has one behind it
   pub few_handed : d.frames < MAX_FRAMES
   few_handed =
-      let a = few_frames (at.0 ++ take used d.block.items) in
-      let b = ap (λ (fs : List (List ℕ)). length fs) at.1.2.frames in
+      let a = few_frames (at.0 ++ take at.2.1.0.place at.1) in
+      let b = ap (λ (fs : List (List ℕ)). length fs) at.2.1.2.frames in
       let c = length-append (map joined st.handed) (joined st.pieces ∷ []) in
       let e = length-map st.handed joined in let f = st.frames in
       omega (arith, a, b, c, e, f)
 
   module _ (all : length d.slices.items ≤ gone) where
     whole : length d.slices.items ≡ gone
-    whole = let a = st.slices.many in let b = at.1.1 in omega (arith, a, b, all)
+    whole = let a = st.slices.many in let b = at.2.1.1 in omega (arith, a, b, all)
 
     -- the worker whose the frame is
     abbrev pub to : ℕ
@@ -119,8 +119,8 @@ module _ (shop : Shop) (d : Desk) (read : List ℕ) (st : DeskStands shop d read
       pub hands_none : (view end).sent ≡ (view was).sent → DeskStands shop (record d { ends = ends }) read
       hands_none sent =
           let b = st.block in
-          let inside = at.1.0 in
-          let frame = at.1.2 in
+          let inside = at.2.0 in
+          let frame = at.2.1.2 in
           record {
             stands = record {
               works = st.stands.works;
@@ -131,7 +131,7 @@ module _ (shop : Shop) (d : Desk) (read : List ℕ) (st : DeskStands shop d read
               ends = same_many;
               rooms = st.stands.rooms;
             };
-            block = record { some = b.some; few = b.few; filled = b.filled; class = b.class };
+            block = record { some = b.some; few = b.few; class = b.class };
             counts = st.counts;
             handed = st.handed;
             pieces = st.pieces;
@@ -155,17 +155,18 @@ module _ (shop : Shop) (d : Desk) (read : List ℕ) (st : DeskStands shop d read
             underway =
                 subst (λ (s : Stage). IsUnderway s (record d { ends = ends }) read st.handed st.pieces) (sym handing) (
                   at.0,
+                  at.1,
                   (
                     record {
                       read_is = inside.read_is;
                       blocks = inside.blocks;
+                      few = inside.few;
                       full = inside.full;
-                      within = inside.within;
                       capacity = inside.capacity;
+                      rest = inside.rest;
                       written = inside.written;
                     },
-                    at.1.1,
-                    record { frames = frame.frames; cut = frame.cut; healthy = frame.healthy },
+                    (at.2.1.0, at.2.1.1, record { frames = frame.frames; healthy = frame.healthy }),
                   ),
                 );
           }
@@ -224,8 +225,8 @@ module _ (shop : Shop) (d : Desk) (read : List ℕ) (st : DeskStands shop d read
           (record d { ends = ends; frames = d.frames + 1; slices = slices; stage = Cutting root used }) read
       hands_job slices none sent =
           let b = st.block in
-          let inside = at.1.0 in
-          let frame = at.1.2 in
+          let inside = at.2.0 in
+          let frame = at.2.1.2 in
           record {
             stands = record {
               works = st.stands.works;
@@ -236,7 +237,7 @@ module _ (shop : Shop) (d : Desk) (read : List ℕ) (st : DeskStands shop d read
               ends = same_many;
               rooms = st.stands.rooms;
             };
-            block = record { some = b.some; few = b.few; filled = b.filled; class = b.class };
+            block = record { some = b.some; few = b.few; class = b.class };
             counts =
                 subst (λ (vs : List ViewData). CountsJust (root ∷ map (λ v. v.root) vs) (view_of d.seat))
                 (drop_all gone d.slices.items all ∙ sym none)
@@ -270,20 +271,24 @@ module _ (shop : Shop) (d : Desk) (read : List ℕ) (st : DeskStands shop d read
             others = st.others;
             underway = (
               at.0,
+              at.1,
               (
                 record {
                   read_is = inside.read_is;
                   blocks = inside.blocks;
+                  few = inside.few;
                   full = inside.full;
-                  within = inside.within;
                   capacity = inside.capacity;
+                  rest = inside.rest;
                   written = inside.written;
                 },
-                record {
-                  frames = frame.frames ∙ sym (map-append joined st.handed (st.pieces ∷ []));
-                  cut = frame.cut;
-                  healthy = frame.healthy;
-                },
+                (
+                  at.2.1.0,
+                  record {
+                    frames = frame.frames ∙ sym (map-append joined st.handed (st.pieces ∷ []));
+                    healthy = frame.healthy;
+                  },
+                ),
               ),
             );
           }

@@ -12,7 +12,9 @@ pub mod SentLaws
 pub mod PostLaws
 pub mod PushLaws
 pub mod HandLaws
-pub mod PlaceLaws
+pub mod FillLaws
 pub mod EndLaws
 pub mod TellLaws
 pub mod CameLaws
+pub mod FillBytes
+pub mod GoLaws

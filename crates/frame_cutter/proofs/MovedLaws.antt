@@ -8,6 +8,7 @@ use Rattle.job_queue.specs.declared.jobs.Job.{Job}
 use Rattle.pool_law.specs.declared.id.ViewData.{ViewData}
 use Rattle.frame_hash.specs.declared.shop.Shop.{Shop}
 use Rattle.frame_hash.specs.Told.{jobs_of, pieces_of, share_of}
+use Rattle.frame_slices.specs.declared.slicer.Found.{Found}
 use Rattle.frame_slices.specs.declared.slicer.Slicer.{Slicer}
 use Rattle.frame_cutter.specs.declared.desk.Desk.{Desk}
 use Rattle.frame_cutter.specs.declared.stage.Stage.{Stage}
@@ -18,13 +19,14 @@ use Rattle.frame_cutter.specs.Standing.{DeskStands, HasBlock, HasServed, IsUnder
 use Rattle.frame_cutter.proofs.SeatLaws.{HasGone, sent_then}
 
 -- the desk with these of its parts
-abbrev pub moved_to : Desk → PoolSeat → ℕ → ℕ → ℕ → Bool → Slicer → Vec ViewData → Stage → Verdict → Desk
-moved_to d seat turns moves filled last slicer slices stage verdict =
+abbrev pub moved_to :
+    Desk → PoolSeat → ℕ → ℕ → Vec Found → Bool → Slicer → Vec ViewData → Stage → Verdict → Desk
+moved_to d seat turns moves finds last slicer slices stage verdict =
     record d {
       seat = seat;
       turns = turns;
       moves = moves;
-      filled = filled;
+      finds = finds;
       last = last;
       slicer = slicer;
       slices = slices;
@@ -39,11 +41,11 @@ pub record KeepsTold (workers : ℕ) (old new : Stage) : Type 0 where
   pub ends : (worker : ℕ) → worker < workers → ends_at old worker ≡ ends_at new worker
 
 module _ (shop : Shop) (d : Desk) (read : List ℕ) (st : DeskStands shop d read)
-    (seat : PoolSeat) (turns moves filled : ℕ) (last : Bool) (slicer : Slicer) (slices : Vec ViewData)
+    (seat : PoolSeat) (turns moves : ℕ) (finds : Vec Found) (last : Bool) (slicer : Slicer) (slices : Vec ViewData)
     (stage : Stage) (verdict : Verdict) (pieces : List (List ℕ))
     (went : HasGone shop.pool.now d.workers turns moves (roots_at stage slices.items) d.seat seat)
     (keeps : KeepsTold d.workers d.stage stage) where
-  stands_then : StandsAt shop (moved_to d seat turns moves filled last slicer slices stage verdict)
+  stands_then : StandsAt shop (moved_to d seat turns moves finds last slicer slices stage verdict)
   stands_then =
       let s = st.stands in
       record {
@@ -56,11 +58,8 @@ module _ (shop : Shop) (d : Desk) (read : List ℕ) (st : DeskStands shop d read
         rooms = s.rooms;
       }
 
-  block_then : filled ≤ length d.block.items
-      → HasBlock shop (moved_to d seat turns moves filled last slicer slices stage verdict)
-  block_then fits =
-      let b = st.block in
-      record { some = b.some; few = b.few; filled = fits; class = b.class }
+  block_then : HasBlock shop (moved_to d seat turns moves finds last slicer slices stage verdict)
+  block_then = let b = st.block in record { some = b.some; few = b.few; class = b.class }
 
   same_jobs : (worker : ℕ) → worker < d.workers
       → jobs_at d.workers worker st.handed d.stage ≡ jobs_at d.workers worker st.handed stage
@@ -82,7 +81,7 @@ module _ (shop : Shop) (d : Desk) (read : List ℕ) (st : DeskStands shop d read
       ∙ sym (ap (λ n. so_far worker n pieces) keeps.behind)
 
   served_then : length slices.items + moves ≤ length d.slices.items + d.moves → (worker : ℕ) → worker < d.workers
-      → HasServed shop (moved_to d seat turns moves filled last slicer slices stage verdict) st.handed pieces worker
+      → HasServed shop (moved_to d seat turns moves finds last slicer slices stage verdict) st.handed pieces worker
   served_then few worker below =
       let s = st.served worker below in
       record {
@@ -99,14 +98,13 @@ module _ (shop : Shop) (d : Desk) (read : List ℕ) (st : DeskStands shop d read
             omega (arith, a, b, c, e, few));
       }
 
-  pub moved : (more : List ℕ) → filled ≤ length d.block.items
-      → AreSlices (view_of seat).own.notes (Some d.workers) slices.items pieces
+  pub moved : (more : List ℕ) → AreSlices (view_of seat).own.notes (Some d.workers) slices.items pieces
       → length slices.items + moves ≤ length d.slices.items + d.moves
-      → IsUnderway stage (moved_to d seat turns moves filled last slicer slices stage verdict) more st.handed pieces
-      → DeskStands shop (moved_to d seat turns moves filled last slicer slices stage verdict) more
-  moved more fits are few underway = record {
+      → IsUnderway stage (moved_to d seat turns moves finds last slicer slices stage verdict) more st.handed pieces
+      → DeskStands shop (moved_to d seat turns moves finds last slicer slices stage verdict) more
+  moved more are few underway = record {
     stands = stands_then;
-    block = block_then fits;
+    block = block_then;
     counts = went.counts;
     handed = st.handed;
     pieces = pieces;

@@ -217,8 +217,8 @@ module _ (shop : Shop) (d : Desk) (read : List ℕ) (st : DeskStands shop d read
           let s = st.stands in
           let b = st.block in
           let at = handing_at in
-          let inside = at.1.0 in
-          let frame = at.1.2 in
+          let inside = at.2.0 in
+          let frame = at.2.1.2 in
           let low = slice_get_within d.slices.items gone view there in
           let many = st.slices.many in
           record {
@@ -233,7 +233,7 @@ module _ (shop : Shop) (d : Desk) (read : List ℕ) (st : DeskStands shop d read
               ends = s.ends;
               rooms = s.rooms;
             };
-            block = record { some = b.some; few = b.few; filled = b.filled; class = b.class };
+            block = record { some = b.some; few = b.few; class = b.class };
             counts = counted;
             handed = st.handed;
             pieces = st.pieces;
@@ -250,19 +250,20 @@ module _ (shop : Shop) (d : Desk) (read : List ℕ) (st : DeskStands shop d read
                 (elsewhere other [] (λ is. omega (arith, is, above, some)) (st.others other above));
             underway = (
               at.0,
+              at.1,
               (
                 record {
                   read_is = inside.read_is;
                   blocks = inside.blocks;
+                  few = inside.few;
                   full = inside.full;
-                  within = inside.within;
                   capacity = inside.capacity;
+                  rest = inside.rest;
                   written =
-                      subst (λ (ns : List Entry). Writes ns (Some d.workers) root (take d.filled d.block.items))
+                      subst (λ (ns : List Entry). Writes ns (Some d.workers) root (at.1 ++ inside.rest))
                       (sym more) (writes_kept es (letter ∷ []) (Some d.workers) root _ inside.written);
                 },
-                omega (arith, low, many),
-                record { frames = frame.frames; cut = frame.cut; healthy = frame.healthy },
+                (at.2.1.0, omega (arith, low, many), record { frames = frame.frames; healthy = frame.healthy }),
               ),
             );
           }

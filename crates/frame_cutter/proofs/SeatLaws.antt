@@ -1,5 +1,5 @@
 -- The seat of a cutter further on, behind steps that posted nothing.
-use Rattle.std.proofs.Common.{◌≡◌, ℕ, ◌+◌, ◌≤◌, List, [], ◌++◌, length, map, refl, sym, ap, subst, ◌∙◌, arith, Option, Some, append-nil}
+use Rattle.std.proofs.Common.{◌≡◌, ℕ, ◌+◌, ◌≤◌, List, [], ◌++◌, length, map, refl, sym, ap, subst, ◌∙◌, arith, Option, Some, append_assoc, append-nil}
 use Rattle.pool_law.specs.declared.id.RootId.{RootId}
 use Rattle.pool_law.specs.declared.id.ViewData.{ViewData}
 use Rattle.pool_law.specs.declared.note.Object.TheVariants.{Mail}
@@ -127,3 +127,21 @@ post_nothing_on es more x y sender receiver =
     let mail = Mail sender receiver in
     ap (posted mail) (map-append note_of es more) ∙ posted-append mail (map note_of es) (map note_of more)
     ∙ (λ i. x sender receiver i ++ y sender receiver i)
+
+-- ---- Steps behind others.
+
+pub gone_on : (pool : SharedPool) (workers turns moves left rest : ℕ) (roots after : List RootId)
+    (old mid new : PoolSeat) → HasGone pool workers turns moves roots old mid
+    → HasGone pool workers left rest after mid new → HasGone pool workers left rest after old new
+gone_on pool workers turns moves left rest roots after old mid new x y = record {
+  works = y.works;
+  lane = y.lane;
+  added = x.added ++ y.added;
+  notes =
+      y.notes ∙ ap (λ (es : List Entry). es ++ y.added) x.notes
+      ∙ append_assoc (view_of old).own.notes x.added y.added;
+  unposted = post_nothing_on x.added y.added x.unposted y.unposted;
+  sent = λ to. (let a = x.sent to in let b = y.sent to in omega (arith, a, b));
+  fresh = y.fresh;
+  counts = y.counts;
+}

@@ -102,8 +102,7 @@ module _ (shop : Shop) (d : Desk) (read : List ℕ) (next : ℕ)
 
     block_then : HasBlock shop (record d { ends = ends; stage = Ending told })
     block_then =
-        let b = st.block in
-        record { some = b.some; few = b.few; filled = b.filled; class = b.class }
+        let b = st.block in record { some = b.some; few = b.few; class = b.class }
 
     tells_so : DeskStands shop (record d { ends = ends; stage = Ending told }) read
     tells_so = record {

@@ -3,3 +3,5 @@ pub mod Stages
 pub mod Standing
 pub mod Stops
 pub mod Finds
+pub mod Loads
+pub mod Gifts

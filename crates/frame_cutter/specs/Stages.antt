@@ -6,12 +6,11 @@ use Rattle.pool_law.specs.declared.id.RootId.{RootId}
 use Rattle.pool_law.specs.declared.id.ViewData.{ViewData}
 use Rattle.frame_hash.specs.Told.{jobs_of, pieces_of, share_of}
 use Rattle.frame_cutter.specs.declared.stage.Stage.{Stage}
-use Rattle.frame_cutter.specs.declared.stage.Stage.TheVariants.{Filling, Placing, Cutting, Handing, LettingGo, Ending, Over}
+use Rattle.frame_cutter.specs.declared.stage.Stage.TheVariants.{Filling, Cutting, Handing, LettingGo, Ending, Over}
 
 -- the root of the block that is being cut
 abbrev pub block_roots : Stage → List RootId
 block_roots Filling = []
-block_roots Placing = []
 block_roots (Cutting root used) = root ∷ []
 block_roots (Handing root used posted) = root ∷ []
 block_roots LettingGo = []
@@ -21,7 +20,6 @@ block_roots Over = []
 -- the slices of the present frame that went to its worker, as pieces, and those that didn't yet
 abbrev pub gone_of : Stage → ℕ
 gone_of Filling = 0
-gone_of Placing = 0
 gone_of (Cutting root used) = 0
 gone_of (Handing root used posted) = posted
 gone_of LettingGo = 0
@@ -35,7 +33,6 @@ roots_at stage slices = block_roots stage ++ map (λ v. v.root) (drop (gone_of s
 -- what a worker is told at the end
 abbrev pub ends_at : Stage → ℕ → List Job
 ends_at Filling worker = []
-ends_at Placing worker = []
 ends_at (Cutting root used) worker = []
 ends_at (Handing root used posted) worker = []
 ends_at LettingGo worker = []

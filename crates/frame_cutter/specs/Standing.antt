@@ -1,5 +1,5 @@
 -- What holds of a cutter between two steps.
-use Rattle.std.specs.Prelude.{◌≡◌, ℕ, ◌+◌, ◌-◌, ◌<◌, ◌≤◌, Bool, true, false, List, [], ◌∷◌, ◌++◌, HoldsAt, length, map, take, Option, Some, None, slice_get}
+use Rattle.std.specs.Prelude.{◌≡◌, ℕ, ◌+◌, ◌-◌, ◌<◌, ◌≤◌, Bool, true, false, List, [], ◌∷◌, ◌++◌, HoldsAt, length, map, take, drop, Option, Some, None, slice_get}
 use Rattle.std.specs.Io.KnownBytes.{Consumes, IsAtEnd}
 use Rattle.crossbeam_queue.specs.Passes.{Pass, view}
 use Rattle.size_classes.specs.Sizes.{class_of}
@@ -20,29 +20,31 @@ use Rattle.job_queue.specs.Jobs.{IsSender}
 use Rattle.frame_core.specs.declared.frame.FrameNo.{FrameNo}
 use Rattle.frame_core.specs.declared.frame.FrameNo.TheVariants.{Length, Frames, Stream, Inside}
 use Rattle.frame_core.specs.Frames.{failure_of, frames_of}
+use Rattle.frame_slices.specs.declared.slicer.Found.{Found}
+use Rattle.frame_slices.specs.declared.slicer.Slicer.{Slicer}
 use Rattle.frame_slices.specs.Slices.{HasCut}
 use Rattle.frame_hash.specs.declared.shop.Shop.{Shop}
 use Rattle.frame_hash.specs.Told.{joined}
 use Rattle.frame_cutter.specs.declared.cutting.Cutting as machines
 use Rattle.frame_cutter.specs.declared.desk.Desk.{Desk}
 use Rattle.frame_cutter.specs.declared.stage.Stage.{Stage}
-use Rattle.frame_cutter.specs.declared.stage.Stage.TheVariants.{Filling, Placing, Cutting, Handing, LettingGo, Ending, Over}
+use Rattle.frame_cutter.specs.declared.stage.Stage.TheVariants.{Filling, Cutting, Handing, LettingGo, Ending, Over}
 use Rattle.frame_cutter.specs.declared.stage.Verdict.{Verdict}
 use Rattle.frame_cutter.specs.declared.stage.Verdict.TheVariants.{Whole, Refused, Fault}
 use Rattle.frame_cutter.specs.declared.stage.TheConstants.{MOST_SLICES}
 use Rattle.frame_cutter.specs.Sends.{AreSlices, HasSent, WriteFresh, Writes}
 use Rattle.frame_cutter.specs.Stages.{gone_of, jobs_at, pieces_at, roots_at}
+use Rattle.frame_cutter.specs.Finds.{GoThrough}
 use Rattle.frame_cutter.specs.Stops.{AreBlocks, StopsWithin}
 
 -- ---- How far it came in the stream.
 
--- the frames that were handed over are those of the bytes gone through, and these pieces are the
--- present frame's
+-- the frames that were handed over are those of the bytes gone through, and these pieces are of the
+-- next
 pub record IsBetween
     (d : Desk) (gone : List ℕ) (handed : List (List (List ℕ))) (pieces : List (List ℕ)) : Type 0
   where
     pub frames : frames_of gone ≡ map joined handed
-    pub cut : HasCut d.slicer gone (joined pieces)
     pub healthy : d.verdict ≡ Whole
 
 -- the pieces are a whole frame, the next behind those that were handed over
@@ -50,21 +52,27 @@ pub record IsAtFrame
     (d : Desk) (gone : List ℕ) (handed : List (List (List ℕ))) (pieces : List (List ℕ)) : Type 0
   where
     pub frames : frames_of gone ≡ map joined handed ++ joined pieces ∷ []
-    pub cut : HasCut d.slicer gone []
     pub healthy : d.verdict ≡ Whole
 
--- the block is full, if it isn't the last
-abbrev pub IsFull : Desk → Type 0
-IsFull d = d.last ≡ false → d.filled ≡ length d.block.items
+-- the block came behind these bytes, and is in a root; it is full, if it isn't the last
+pub record IsInRoot (d : Desk) (before block read : List ℕ) (root : RootId) : Type 0 where
+  pub read_is : read ≡ before ++ block
+  pub blocks : AreBlocks d.block before
+  pub few : length block ≤ d.block
+  pub full : d.last ≡ false → length block ≡ d.block
+  pub capacity : root.capacity ≡ d.block
+  pub rest : List ℕ
+  pub written : Writes (view_of d.seat).own.notes (Some d.workers) root (block ++ rest)
 
--- the block came behind these bytes, and is in a root
-pub record IsInRoot (d : Desk) (before read : List ℕ) (root : RootId) (used : ℕ) : Type 0 where
-  pub read_is : read ≡ before ++ take d.filled d.block.items
-  pub blocks : AreBlocks (length d.block.items) before
-  pub full : IsFull d
-  pub within : used ≤ d.filled
-  pub capacity : root.capacity ≡ length d.block.items
-  pub written : Writes (view_of d.seat).own.notes (Some d.workers) root (take d.filled d.block.items)
+-- so many finds are used: the block was gone through up to this place, and the others go through the
+-- rest of it, behind which the slicer is
+pub record IsAt
+    (finds : List Found) (s : Slicer) (before block own : List ℕ) (used : ℕ) : Type 0
+  where
+    pub place : ℕ
+    pub within : place ≤ length block
+    pub many : used ≤ length finds
+    pub rest : GoThrough (drop used finds) block place (before ++ take place block) own s
 
 -- a stream that ends inside a frame is refused at its end
 abbrev pub IsMet : FrameNo → Desk → Type 0
@@ -78,25 +86,23 @@ abbrev pub HasVerdict : Verdict → Desk → List ℕ → List (List (List ℕ))
 HasVerdict Whole d read handed =
     (d.last ≡ true) × (failure_of read ≡ None) × (frames_of read ≡ map joined handed)
 HasVerdict (Refused why) d read handed =
-    IsMet why d × (failure_of read ≡ Some why) × StopsWithin (length d.block.items) read
+    IsMet why d × (failure_of read ≡ Some why) × StopsWithin d.block read
 HasVerdict Fault d read handed = Unit {0}
 
 -- by its stage, how far it came in the bytes that were read
 abbrev pub IsUnderway :
     Stage → Desk → List ℕ → List (List (List ℕ)) → List (List ℕ) → Type 0
 IsUnderway Filling d read handed pieces =
-    (gone : List ℕ) × ((read ≡ gone ++ take d.filled d.block.items)
-    × (d.filled < length d.block.items) × (d.last ≡ false) × IsBetween d gone handed pieces
-    × AreBlocks (length d.block.items) gone)
-IsUnderway Placing d read handed pieces =
-    (gone : List ℕ) × ((read ≡ gone ++ take d.filled d.block.items) × IsBetween d gone handed pieces
-    × IsFull d × AreBlocks (length d.block.items) gone)
+    (d.last ≡ false) × IsBetween d read handed pieces × HasCut d.slicer read (joined pieces)
+    × AreBlocks d.block read
 IsUnderway (Cutting root used) d read handed pieces =
-    (before : List ℕ) × (IsInRoot d before read root used
-    × IsBetween d (before ++ take used d.block.items) handed pieces)
+    (before : List ℕ) × (block : List ℕ) × (IsInRoot d before block read root
+    × ((at : IsAt d.finds.items d.slicer before block (joined pieces) used)
+    × IsBetween d (before ++ take at.place block) handed pieces))
 IsUnderway (Handing root used posted) d read handed pieces =
-    (before : List ℕ) × (IsInRoot d before read root used × (posted ≤ length pieces)
-    × IsAtFrame d (before ++ take used d.block.items) handed pieces)
+    (before : List ℕ) × (block : List ℕ) × (IsInRoot d before block read root
+    × ((at : IsAt d.finds.items d.slicer before block [] used) × (posted ≤ length pieces)
+    × IsAtFrame d (before ++ take at.place block) handed pieces))
 IsUnderway LettingGo d read handed pieces = HasVerdict d.verdict d read handed
 IsUnderway (Ending next) d read handed pieces =
     HasVerdict d.verdict d read handed × (next ≤ d.workers) × (pieces ≡ [])
@@ -119,13 +125,11 @@ pub record StandsAt (shop : Shop) (d : Desk) : Type 0 where
   pub ends : length d.ends.items ≡ d.workers
   pub rooms : (worker : ℕ) → worker < d.workers → RoomFor shop.pool.now d.workers worker MOST_SLICES
 
--- its block may have any of its bytes, and a root may have as many
+-- a root may have as many bytes as a block
 pub record HasBlock (shop : Shop) (d : Desk) : Type 0 where
-  pub some : 0 < length d.block.items
-  pub few : length d.block.items ≤ 65536
-  pub filled : d.filled ≤ length d.block.items
-  pub class : class_of (geometry_of shop.pool.now.table.layout.shape) (length d.block.items)
-      ≡ Some d.class
+  pub some : 0 < d.block
+  pub few : d.block ≤ 65536
+  pub class : class_of (geometry_of shop.pool.now.table.layout.shape) d.block ≡ Some d.class
 
 -- what a worker got: its jobs, and its pieces
 pub record HasServed
@@ -188,7 +192,7 @@ module _ {S : Type 0} (left : S → Option (List ℕ)) (faults : S → ℕ) wher
     pub read : List ℕ
     pub stands : DeskStands shop d read
     pub workers : d.workers ≡ first.workers
-    pub block : length d.block.items ≡ length first.block.items
+    pub block : d.block ≡ first.block
     pub bytes : is_fault d.verdict ≡ false → Consumes (left old) (left new) read
     pub end : is_fault d.verdict ≡ false → d.last ≡ true → IsAtEnd (left new)
     pub faults_are : HasFaults d.verdict (faults old) (faults new)

@@ -7,6 +7,7 @@ ghost use Rattle.frame_cutter.specs.declared.stage.Stage.{Stage};
 ghost use Rattle.frame_cutter.specs.Standing.{DeskCame};
 
 use crate::desk::Desk;
+use crate::filling::fill;
 use crate::stage::Stage;
 use frame_hash::Shop;
 use std::alloc::AllocError;
@@ -31,26 +32,8 @@ impl<'a, 's, S: Source> Machine<Shop<'a>> for Cutting<'s, S> {
 
     fn step<R: Wait>(&mut self, rt: &R, shop: &Shop<'a>) -> Result<Stepped, AllocError> {
         if self.desk.stage == Stage::Filling {
-            read_on(self.source, self.desk);
-            return Ok(Stepped::Went);
+            return fill(rt, shop, self.source, self.desk);
         }
         self.desk.go_on(rt, shop)
-    }
-}
-
-// Reads into the rest of the block.
-fn read_on<S: Source>(source: &mut S, desk: &mut Desk)
-    requires stage { desk.old.stage ≡ Stage.Filling }
-    requires came { (shop : Shop) × ((first : S) × ((begun : Desk) ×
-        DeskCame S.left S.faults shop first source.old begun desk.old)) }
-    ensures { (shop : Shop) (first : S) (begun : Desk) →
-        DeskCame S.left S.faults shop first source.old begun desk.old →
-        DeskCame S.left S.faults shop first source.new begun desk.new }
-{
-    let filled = desk.filled;
-    match source.read(&mut desk.block[filled..]) {
-        Ok(0) => desk.fill_last(),
-        Ok(count) => desk.fill(count),
-        Err(_failed) => desk.fail(),
     }
 }

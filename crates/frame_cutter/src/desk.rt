@@ -8,27 +8,29 @@ ghost use Rattle.frame_cutter.specs.Standing.{DeskStands, SameDesk, is_fault, ve
 
 use crate::stage::{Stage, Verdict};
 use frame_hash::Shop;
-use frame_slices::Slicer;
+use frame_slices::{Found, Slicer};
 use job_queue::JobEnd;
 use pool_law::ViewData;
 use shared_pool::PoolSeat;
-use std::alloc::AllocError;
+use std::alloc::{AllocError, Global};
 use std::sync::Wait;
 use work_table::Stepped;
 
 /// A cutter without its source.
 pub struct Desk {
+    pub alloc: Global,
     pub seat: PoolSeat,
     /// How many workers there are. Their lanes are those below this number, which is its own lane.
     pub workers: u32,
     /// The ends of their queues, by number.
     pub ends: Vec<JobEnd>,
+    /// It has gone through all that was read.
     pub slicer: Slicer,
-    /// The bytes of the present block come here, as many as it has room for.
-    pub block: Vec<u8>,
-    /// How many of them have come.
-    pub filled: usize,
-    /// Nothing comes behind them.
+    /// How many bytes a block has room for.
+    pub block: u32,
+    /// What the slicer found in the present block.
+    pub finds: Vec<Found>,
+    /// Nothing comes behind the present block.
     pub last: bool,
     /// The size class of a block.
     pub class: u32,
@@ -56,60 +58,12 @@ impl Desk {
     {
         match self.stage {
             Stage::Filling => Ok(Stepped::Waiting),
-            Stage::Placing => Ok(self.place(rt, shop)),
             Stage::Cutting { root, used } => self.cut(rt, shop, root, used),
             Stage::Handing { root, used, posted } => Ok(self.hand(rt, shop, root, used, posted)),
             Stage::LettingGo => Ok(self.let_go(rt, shop)),
             Stage::Ending { next } => Ok(self.tell(rt, shop, next)),
             Stage::Over => Ok(Stepped::Finished),
         }
-    }
-
-    /// So many bytes more came into the block.
-    pub(crate) fn fill(&mut self, count: usize)
-        requires stage { self.old.stage ≡ Stage.Filling }
-        requires room { self.old.filled + count ≤ vec_len self.old.block }
-        ensures stands { (shop : Shop) (read : List ℕ) → DeskStands shop self.old read →
-            DeskStands shop self.new
-            (read ++ take count (drop self.old.filled self.old.block.items)) }
-        ensures same { SameDesk self.old self.new }
-    {
-        self.filled += count;
-        if self.filled == self.block.len() {
-            self.stage = Stage::Placing;
-        }
-    }
-
-    /// The source is at its end.
-    pub(crate) fn fill_last(&mut self)
-        requires stage { self.old.stage ≡ Stage.Filling }
-        ensures stands { (shop : Shop) (read : List ℕ) → DeskStands shop self.old read →
-            DeskStands shop self.new read }
-        ensures workers { self.new.workers ≡ self.old.workers }
-        ensures block { self.new.block ≡ self.old.block }
-        ensures last { self.new.last ≡ true }
-        ensures fault { is_fault self.old.verdict ≡ false → is_fault self.new.verdict ≡ false }
-    {
-        self.last = true;
-        if self.filled == 0 {
-            self.finish();
-        } else {
-            self.stage = Stage::Placing;
-        }
-    }
-
-    /// A read failed.
-    pub(crate) fn fail(&mut self)
-        requires stage { self.old.stage ≡ Stage.Filling }
-        ensures stands { (shop : Shop) (read : List ℕ) → DeskStands shop self.old read →
-            DeskStands shop self.new read }
-        ensures workers { self.new.workers ≡ self.old.workers }
-        ensures block { self.new.block ≡ self.old.block }
-        ensures last { self.new.last ≡ self.old.last }
-        ensures fault { is_fault self.new.verdict ≡ true }
-    {
-        self.verdict = Verdict::Fault;
-        self.stage = Stage::LettingGo;
     }
 
     /// The stream ends here.

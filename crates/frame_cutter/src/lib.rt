@@ -1,14 +1,16 @@
 #![tactic(auto)]
-//! The cutter of a stream. It reads a block of the stream, puts it into a root of a pool, and cuts
-//! it into slices of frames where it lies: a slice is a view of the root, which it counts once more.
+//! The cutter of a stream. It reads a block of the stream into a root of a pool, and cuts it into
+//! slices of frames where it lies: a slice is a view of the root, which it counts once more. No byte
+//! of a frame is copied between the read and its worker.
 //! A frame that ends goes to a worker, its slices as parcels and its number as a job. It is a
 //! machine that is stepped beside those workers.
 
 mod cutting;
 mod desk;
 mod ending;
+mod filling;
 mod handing;
-mod placing;
+mod loading;
 mod slicing;
 mod stage;
 

@@ -1,6 +1,6 @@
 //! How a block is cut into slices of frames, where it lies.
 
-ghost use Rattle.std.specs.Prelude.{◌≡◌, ◌≢◌, ℕ, ◌-◌, ◌<◌, ◌≤◌, Bool, List, [], ◌∷◌, ◌++◌, Ok, vec_capacity, vec_len};
+ghost use Rattle.std.specs.Prelude.{◌≡◌, ◌≢◌, ℕ, ◌-◌, ◌<◌, ◌≤◌, Bool, List, [], ◌∷◌, ◌++◌, Ok, Some, slice_get, vec_capacity, vec_len};
 ghost use Rattle.pool_table.specs.Counts.{HasCount};
 ghost use Rattle.seat_work.specs.Changes.{once_less, once_more};
 ghost use Rattle.seat_work.specs.Hands.{empty_hand};
@@ -8,11 +8,11 @@ ghost use Rattle.seat_work.specs.Works.{IsLater, Proceeds, Works};
 ghost use Rattle.shared_pool.specs.SeatViews.{view_of};
 ghost use Rattle.frame_hash.specs.declared.shop.Shop.{Shop};
 ghost use Rattle.frame_hash.specs.declared.turns.TheConstants.{RELEASE_TURNS};
-ghost use Rattle.frame_cutter.specs.Finds.{HasFound, slice_at, stage_at};
+ghost use Rattle.frame_cutter.specs.Finds.{slice_at, stage_at};
 ghost use Rattle.frame_cutter.specs.Standing.{DeskStands, SameDesk};
 
 use crate::desk::Desk;
-use crate::stage::{Stage, Verdict};
+use crate::stage::Stage;
 use frame_hash::{RELEASE_TURNS, Shop};
 use frame_slices::Found;
 use pool_law::{RootId, ViewData};
@@ -23,7 +23,7 @@ use std::sync::Wait;
 use work_table::Stepped;
 
 impl Desk {
-    /// Goes on with the block, which is in this root, from this place on.
+    /// Goes on with the block, which is in this root, behind so many finds.
     pub(crate) fn cut<W: Wait>(
         &mut self,
         rt: &W,
@@ -41,35 +41,30 @@ impl Desk {
         if self.turns < RELEASE_TURNS {
             return Ok(Stepped::Waiting);
         }
-        if used == self.filled {
+        let Some(found) = self.finds.get(used).copied() else {
             self.leave(rt, shop, root);
             return Ok(Stepped::Went);
-        }
+        };
         if self.moves == 0 {
             return Ok(Stepped::Waiting);
         }
         self.slices.reserve(1)?;
-        match self.slicer.go_on(&self.block[..self.filled], used) {
-            Ok(found) => self.take(shop, root, found),
-            Err(why) => {
-                self.verdict = Verdict::Refused(why);
-                self.drop_root(rt, shop.pool, root);
-                self.stage = Stage::LettingGo;
-            }
-        }
+        self.take(shop, root, used, found);
         Ok(Stepped::Went)
     }
 
     // Takes what was found in the block for the present frame.
-    fn take(&mut self, shop: &Shop, root: RootId, found: Found)
-        requires found { (read : List ℕ) × HasFound shop.now self.old root found read }
+    fn take(&mut self, shop: &Shop, root: RootId, used: usize, found: Found)
+        requires stands { (read : List ℕ) × DeskStands shop.now self.old read }
+        requires stage { self.old.stage ≡ Stage.Cutting root used }
+        requires found { slice_get self.old.finds.items used ≡ Some found }
         requires moves { 0 < self.old.moves }
         requires room { vec_len self.old.slices < vec_capacity self.old.slices }
-        ensures stands { (read : List ℕ) → HasFound shop.now self.old root found read →
+        ensures stands { (read : List ℕ) → DeskStands shop.now self.old read →
             DeskStands shop.now self.new read }
         ensures same { SameDesk self.old self.new }
     {
-        self.stage = behind(root, found.used, found.ended);
+        self.stage = behind(root, used + 1, found.ended);
         if found.start < found.used {
             self.slice(shop.pool, root, found.start as u32, found.used as u32);
         }
@@ -108,14 +103,14 @@ impl Desk {
     // The block is cut: its root is let go, and the next block is read, if there is one.
     fn leave<W: Wait>(&mut self, rt: &W, shop: &Shop, root: RootId)
         requires stands { (read : List ℕ) × DeskStands shop.now self.old read }
-        requires stage { self.old.stage ≡ Stage.Cutting root self.old.filled }
+        requires stage { (used : ℕ) × (self.old.stage ≡ Stage.Cutting root used)
+            × (vec_len self.old.finds ≤ used) }
         requires turns { RELEASE_TURNS ≤ self.old.turns }
         ensures stands { (read : List ℕ) → DeskStands shop.now self.old read →
             DeskStands shop.now self.new read }
         ensures same { SameDesk self.old self.new }
     {
         self.drop_root(rt, shop.pool, root);
-        self.filled = 0;
         self.stage = Stage::Filling;
         if self.last {
             self.finish();
@@ -138,7 +133,7 @@ impl Desk {
     }
 }
 
-// What comes next where a frame ended at this place of the block, or didn't.
+// What comes next where a frame ended behind so many finds of the block, or didn't.
 fn behind(root: RootId, used: usize, ended: bool) -> Stage
     ensures { result ≡ stage_at root used ended }
 {

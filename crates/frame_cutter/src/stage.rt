@@ -10,17 +10,15 @@ pub const MOST_SLICES: u32 = 131_072;
 /// What a cutter does next.
 #[derive(Clone, Copy, PartialEq, Eq, Debug, Drop)]
 pub enum Stage {
-    /// It reads into its block.
+    /// It reads its next block into a new root.
     Filling,
-    /// Its block goes into a root.
-    Placing,
-    /// It cuts its block, which is in this root, from this place on.
+    /// It cuts its block, which is in this root, by what was found there: so many finds are used.
     Cutting {
         root: RootId,
         used: usize,
     },
-    /// A frame ended at this place. Its slices go to its worker, of which so many went, and then
-    /// its job.
+    /// A frame ended with the last of them. Its slices go to its worker, of which so many went, and
+    /// then its job.
     Handing {
         root: RootId,
         used: usize,

@@ -1,7 +1,4 @@
-use Rattle.std.proofs.Common.{◌≡◌, ℕ, ◌+◌, length, ap, ◌∙◌, arith}
-use Rattle.size_classes.specs.declared.TheConstants.{DEFAULT_PAGE}
-use Rattle.size_classes.specs.Sizes.{class_of, of_pages}
-use Rattle.frame_cut.specs.declared.openings.TheConstants.{ORDER}
+use Rattle.std.proofs.Common.{◌≡◌, ◌+◌, length, arith}
 use Rattle.frame_cut.proofs.ListSteps.{none_left, taken_off}
 use Rattle.frame_cut.proofs.OpenLaws.{is_open}
 use Rattle.frame_cut.proofs.openings.open.Goals as goal
@@ -10,18 +7,14 @@ pub returns-in-Ok : goal.returns-in-Ok
 returns-in-Ok c =
     let w = c.args.options.workers in let seats = c.in-Ok.seats in let lines = c.in_ok-lines.lines in
     let new = c.in-Ok.ensures in let h = c.hire-workers.ensures in let r = c.remove-seat.ensures in
-    let block = c.in_ok-block in let least = c.requires.workers.least in
-    let long : length block.block.items ≡ c.args.options.block =
-    (let a = block.ensures.len in let b = block.block.ok.0 in omega (arith, a, b)) in
+    let least = c.requires.workers.least in
     let many : length seats.items ≡ w + 1 = new.opened.many in
     let own_at = taken_off seats.items c.hire-workers.new.seats.items w c.remove-seat.result h.left
     (let a = many in omega (arith, a)) r.value in
-    is_open w _ seats.items c.remove-seat.result lines.senders.items lines.receivers.items block.block.items
-    c.in_ok-class.class c.args.options.block (omega (arith, least)) new c.in_ok-lines.ensures h.hired own_at
+    is_open w _ seats.items c.remove-seat.result lines.senders.items lines.receivers.items c.args.options.block
+    c.in_ok-class.class (omega (arith, least)) new c.in_ok-lines.ensures h.hired own_at
     c.new_desk-desk.ensures
-    (let a = c.requires.block.least in omega (arith, a, long))
-    (let a = c.requires.block.greatest in omega (arith, a, long)) long
-    (ap (λ (n : ℕ). class_of (of_pages ORDER DEFAULT_PAGE) n) long ∙ c.in_ok-class.ensures) (
+    (let a = c.requires.block.least in omega (arith, a)) c.requires.block.greatest c.in_ok-class.ensures (
       none_left seats.items w c.hire-workers.new.seats.items c.remove-seat.new.self.items many h.left r.by_index.2,
       (let a = r.capacity in let b = h.room in let d = seats.ok.0 in let e = seats.ok.1 in
           omega (arith, a, b, d, e, many)),

@@ -2,16 +2,15 @@ use Rattle.std.proofs.Common.{refl}
 use Rattle.frame_cutter.proofs.CameLaws.{worked}
 use Rattle.frame_cutter.proofs.cutting.CuttingMachineShop.step.Goals as goal
 
-pub read_on-requires-clause-came : goal.read_on-requires-clause-came
-read_on-requires-clause-came g c =
-    let comes = c.requires.comes in
-    (c.args.shop.now, (comes.0.source.now, (comes.0.desk.now, comes.1.came)))
+pub fill-requires-clause-came : goal.fill-requires-clause-came
+fill-requires-clause-came g c =
+    let comes = c.requires.comes in (comes.0.source.now, comes.0.desk.now, comes.1.came)
 
 pub returns-then-eq-clause-comes : goal.returns-then-eq-clause-comes
 returns-then-eq-clause-comes g c first came = record {
   source = came.source;
   desk = came.desk;
-  came = c.read_on.ensures c.args.shop.now first.source.now first.desk.now came.came;
+  came = c.fill.ensures.came first.source.now first.desk.now came.came;
 }
 
 pub returns-clause-comes : goal.returns-clause-comes

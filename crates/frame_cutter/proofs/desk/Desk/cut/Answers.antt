@@ -1,51 +1,40 @@
-use Rattle.std.proofs.Common.{ℕ, List, ◌++◌, drop, take, sym, ap, subst}
-use Rattle.frame_core.specs.Feeding.{IsRefused}
-use Rattle.frame_cutter.specs.declared.desk.Desk.{Desk}
-use Rattle.frame_cutter.specs.declared.stage.Stage.TheVariants.{LettingGo}
-use Rattle.frame_cutter.specs.Standing.{DeskStands}
-use Rattle.frame_cutter.proofs.CutLaws.{counts_root, refuses, reserved}
-use Rattle.frame_cutter.proofs.TakeLaws.{found_so}
+use Rattle.std.proofs.Common.{◌≡◌, ◌∙◌, ◌<◌, ◌≤◌, Bor, List, None, Option, Some, length, refl, subst, sym, ℕ}
+use Rattle.std.specs.Prelude.{HoldsAt, MatchOption, slice_get}
+use Rattle.std.specs.Option.{option_copied}
+use Rattle.std.proofs.lemmas.Option.{slice_get_read}
+use Rattle.frame_slices.specs.declared.slicer.Found.{Found}
+use Rattle.frame_cutter.proofs.CutLaws.{reserved}
 use Rattle.frame_cutter.proofs.desk.Desk.cut.Goals as goal
+
+-- a find that was copied out of the list stands there
+copied-there : (r : Option (Bor Found)) (xs : List Found) (k : ℕ) (f : Found)
+    → MatchOption r (length xs ≤ k) (λ x. (k < length xs) × HoldsAt (λ y. x.now ≡ y) xs k) → option_copied r ≡ Some f
+    → slice_get xs k ≡ Some f
+copied-there None xs k f m e = absurd (cc e)
+copied-there (Some x) xs k f m e =
+    let is : x.now ≡ f = cc e in slice_get_read xs (length xs) k f refl m.0 (sym is ∙ m.1 f)
 
 pub returns-in_err-reserve-clause-stands : goal.returns-in_err-reserve-clause-stands
 returns-in_err-reserve-clause-stands g c read stands =
     reserved c.args.shop.now c.args.self.now read stands c.args.root c.args.used c.requires.stage c.reserve.new.self
     c.reserve.ensures.items
 
-pub take-requires-clause-found : goal.take-requires-clause-found
-take-requires-clause-found g c =
-    let d = c.args.self.now in
-    let stands = c.requires.stands in
-    let found = c.in-Ok.ensures in (
+pub take-requires-clause-stands : goal.take-requires-clause-stands
+take-requires-clause-stands g c =
+    let stands = c.requires.stands in (
       stands.0,
-      found_so c.args.shop.now d stands.0 stands.1 c.args.root c.args.used c.requires.stage c.reserve.new.self
-          c.reserve.ensures.items c.go_on.new.self c.in-Ok.found (take d.filled c.deref.result.now)
-          (ap (λ (xs : List ℕ). take d.filled xs) c.deref.ensures.value) found.place found.takes,
+      reserved c.args.shop.now c.args.self.now stands.0 stands.1 c.args.root c.args.used c.requires.stage
+          c.reserve.new.self c.reserve.ensures.items,
     )
 
-pub drop_root-requires-clause-counts : goal.drop_root-requires-clause-counts
-drop_root-requires-clause-counts g c =
-    let stands = c.requires.stands in
-    counts_root c.args.shop.now c.args.self.now stands.0 stands.1 c.args.root c.args.used c.requires.stage
+pub take-requires-clause-found : goal.take-requires-clause-found
+take-requires-clause-found g c =
+    subst (λ (fs : List Found). slice_get fs c.args.used ≡ Some c.in-Some.found) c.deref.ensures.value
+    (copied-there c.get.result c.deref.result.now c.args.used c.in-Some.found c.get.ensures.lookup.3
+    (sym c.copied.ensures ∙ c.in-Some.is))
 
-pub returns-in-Ok-clause-stands : goal.returns-in-Ok-clause-stands
-returns-in-Ok-clause-stands g c read stands =
-    let d = c.args.self.now in
-    let found = c.in-Ok.ensures in
+pub returns-clause-stands : goal.returns-clause-stands
+returns-clause-stands g c read stands =
     c.take.ensures.stands read
-    (found_so c.args.shop.now d read stands c.args.root c.args.used c.requires.stage c.reserve.new.self
-    c.reserve.ensures.items c.go_on.new.self c.in-Ok.found (take d.filled c.deref.result.now)
-    (ap (λ (xs : List ℕ). take d.filled xs) c.deref.ensures.value) found.place found.takes)
-
-pub returns-in-Err-clause-stands : goal.returns-in-Err-clause-stands
-returns-in-Err-clause-stands g c read stands =
-    let d = c.args.self.now in
-    let call = c.drop_root in
-    let let_go = call.ensures.released in
-    let why = c.in-Err.why in
-    subst (λ (x : Desk). DeskStands c.args.shop.now (record x { stage = LettingGo }) read) (sym call.ensures.desk)
-    (refuses c.args.shop.now d read stands c.args.root c.args.used c.requires.stage call.new.self.seat let_go.0
-    call.ensures.later let_go.1 c.if-self-lt-RELEASE_TURNS.false why c.go_on.new.self c.reserve.new.self
-    c.reserve.ensures.items (λ bytes own has.
-    subst (λ (xs : List ℕ). IsRefused bytes (bytes ++ drop c.args.used (take d.filled xs)) why) c.deref.ensures.value
-    (c.in-Err.ensures.refused bytes own has)))
+    (reserved c.args.shop.now c.args.self.now read stands c.args.root c.args.used c.requires.stage c.reserve.new.self
+    c.reserve.ensures.items)

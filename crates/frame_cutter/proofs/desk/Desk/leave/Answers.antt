@@ -1,4 +1,4 @@
-use Rattle.std.proofs.Common.{Bool, false, ap, refl, sym, subst, ◌∙◌}
+use Rattle.std.proofs.Common.{ap, sym, subst, ◌∙◌, arith}
 use Rattle.frame_slices.specs.Slices.{HasCut}
 use Rattle.frame_cutter.specs.declared.desk.Desk.{Desk}
 use Rattle.frame_cutter.specs.declared.stage.Stage.TheVariants.{Filling, LettingGo}
@@ -9,19 +9,23 @@ use Rattle.frame_cutter.proofs.desk.Desk.leave.Goals as goal
 pub drop_root-requires-clause-counts : goal.drop_root-requires-clause-counts
 drop_root-requires-clause-counts g c =
     let stands = c.requires.stands in
-    counts_root c.args.shop.now c.args.self.now stands.0 stands.1 c.args.root c.args.self.now.filled c.requires.stage
+    let stage = c.requires.stage in
+    counts_root c.args.shop.now c.args.self.now stands.0 stands.1 c.args.root stage.0 stage.1
 
 pub returns-then-self-clause-stands : goal.returns-then-self-clause-stands
 returns-then-self-clause-stands g c read stands =
     let d = c.args.self.now in
+    let stage = c.requires.stage in
+    let all = stage.2 in
+    let many = d.finds.ok.0 in
     let call = c.drop_root in
     let let_go = call.ensures.released in
     let verdict = c.finish.new.self.verdict in
     subst (λ (x : Desk). DeskStands c.args.shop.now x read) (sym c.finish.ensures.desk)
     (subst (λ (x : Desk). DeskStands c.args.shop.now
-    (record x { filled = 0; stage = LettingGo; verdict = verdict }) read) (sym call.ensures.desk)
-    (leaves_last c.args.shop.now d read stands c.args.root d.filled c.requires.stage call.new.self.seat let_go.0
-    call.ensures.later let_go.1 c.requires.turns verdict refl
+    (record x { stage = LettingGo; verdict = verdict }) read) (sym call.ensures.desk)
+    (leaves_last c.args.shop.now d read stands c.args.root stage.0 stage.1 (omega (arith, all, many)) call.new.self.seat
+    let_go.0 call.ensures.later let_go.1 c.requires.turns verdict
     (ap (λ (x : Desk). x.last) (sym call.ensures.desk) ∙ c.if-self.true)
     (λ bytes own has. c.finish.ensures.verdict bytes own
     (subst (λ (x : Desk). HasCut x.slicer bytes own) (sym call.ensures.desk) has))))
@@ -29,13 +33,12 @@ returns-then-self-clause-stands g c read stands =
 pub returns-else-self-clause-stands : goal.returns-else-self-clause-stands
 returns-else-self-clause-stands g c read stands =
     let d = c.args.self.now in
+    let stage = c.requires.stage in
+    let all = stage.2 in
+    let many = d.finds.ok.0 in
     let call = c.drop_root in
     let let_go = call.ensures.released in
-    let more = call.new.self in
-    subst (λ (b : Bool). DeskStands c.args.shop.now (record more { filled = 0; last = b; stage = Filling }) read)
-    (sym c.if-self.false)
-    (subst (λ (x : Desk). DeskStands c.args.shop.now (record x { filled = 0; last = false; stage = Filling }) read)
-    (sym call.ensures.desk)
-    (leaves c.args.shop.now d read stands c.args.root d.filled c.requires.stage call.new.self.seat let_go.0
-    call.ensures.later let_go.1 c.requires.turns refl
-    (ap (λ (x : Desk). x.last) (sym call.ensures.desk) ∙ c.if-self.false)))
+    subst (λ (x : Desk). DeskStands c.args.shop.now (record x { stage = Filling }) read) (sym call.ensures.desk)
+    (leaves c.args.shop.now d read stands c.args.root stage.0 stage.1 (omega (arith, all, many)) call.new.self.seat
+    let_go.0 call.ensures.later let_go.1 c.requires.turns
+    (ap (λ (x : Desk). x.last) (sym call.ensures.desk) ∙ c.if-self.false))

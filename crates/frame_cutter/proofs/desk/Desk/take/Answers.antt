@@ -2,16 +2,16 @@ use Rattle.std.proofs.Common.{◌-◌, sym, subst, ◌∙◌, arith}
 use Rattle.frame_cutter.specs.declared.desk.Desk.{Desk}
 use Rattle.frame_cutter.specs.Standing.{DeskStands}
 use Rattle.frame_cutter.proofs.CutLaws.{counts_root}
-use Rattle.frame_cutter.proofs.TakeLaws.{takes_none, takes_one}
+use Rattle.frame_cutter.proofs.TakeLaws.{small, takes_none, takes_one}
 use Rattle.frame_cutter.proofs.desk.Desk.take.Goals as goal
 
 pub slice-requires-clause-counts : goal.slice-requires-clause-counts
 slice-requires-clause-counts c =
-    let found = c.requires.found.1 in
-    counts_root c.args.shop.now _ c.requires.found.0 found.stands c.args.root found.used found.stage
+    let stands = c.requires.stands in
+    counts_root c.args.shop.now _ stands.0 stands.1 c.args.root c.args.used c.requires.stage
 
 pub returns-then-found-clause-stands : goal.returns-then-found-clause-stands
-returns-then-found-clause-stands c read found =
+returns-then-found-clause-stands c read stands =
     let d = c.args.self.now in
     let f = c.args.found in
     let call = c.slice in
@@ -25,14 +25,30 @@ returns-then-found-clause-stands c read found =
       slices = new.slices;
       stage = c.behind-self.ensures i;
     })))
-    (takes_one c.args.shop.now d c.args.root f read found new.seat new.slices c.if-found.true c.requires.moves
-    more.slices more.retained more.later)
+    (takes_one c.args.shop.now d c.args.root f read stands c.args.used c.requires.stage c.requires.found new.seat
+    new.slices c.if-found.true c.requires.moves more.slices more.retained more.later)
 
 pub returns-else-found-clause-stands : goal.returns-else-found-clause-stands
-returns-else-found-clause-stands c read found =
+returns-else-found-clause-stands c read stands =
     let d = c.args.self.now in
     let f = c.args.found in
-    let end = found.end in
+    let place = small c.args.shop.now d c.args.root f read stands c.args.used c.requires.stage c.requires.found in
+    let end = place.0 in
     let no = c.if-found.false in
     subst (λ (x : Desk). DeskStands c.args.shop.now x read) (sym (λ i. record d { stage = c.behind-self.ensures i }))
-    (takes_none c.args.shop.now d c.args.root f read found (omega (arith, end, no)))
+    (takes_none c.args.shop.now d c.args.root f read stands c.args.used c.requires.stage c.requires.found
+    (omega (arith, end, no)))
+
+pub overflow_cast-found : goal.overflow_cast-found
+overflow_cast-found c =
+    let stands = c.requires.stands in
+    let place = small c.args.shop.now _ c.args.root c.args.found stands.0 stands.1 c.args.used c.requires.stage
+    c.requires.found in
+    let a = place.0 in let b = place.1 in omega (arith, a, b)
+
+pub overflow_cast-found-then-found : goal.overflow_cast-found-then-found
+overflow_cast-found-then-found c =
+    let stands = c.requires.stands in
+    let place = small c.args.shop.now _ c.args.root c.args.found stands.0 stands.1 c.args.used c.requires.stage
+    c.requires.found in
+    let b = place.1 in omega (arith, b)
