@@ -7,6 +7,8 @@
 #[cfg(test)]
 mod grows;
 #[cfg(test)]
+mod lones;
+#[cfg(test)]
 mod measures;
 #[cfg(test)]
 mod rounds;

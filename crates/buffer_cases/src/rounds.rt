@@ -1,5 +1,6 @@
 //! What calls on buffers answer, one after another, on the two threads of a pool.
 
+use crate::lones::owns;
 use buffer_pool::{
     AcceptNo, AccessNo, AllocNo, Back, Buffer, CloseNo, Config, Level, NotAccepted, NotClosed,
     Parcel, PartNo, Pool, PoolName, PoolThread, Serve, Shape, Unsent, open,
@@ -80,6 +81,8 @@ fn slices<B: PoolName, R: Abort + Wait>(
     assert!(rt; last.offset() == 3 && me.refcnt(pool, all) == Ok(3));
     let byte = me.with_bytes(rt, pool, &last, 0, 1, |bytes: &[u8]| bytes.first().copied());
     assert!(rt; byte == Ok(Some(8)));
+    let turned = me.with_bytes_mut(rt, pool, &part, 0, 3, |bytes: &mut [u8]| bytes.reverse());
+    assert!(rt; turned == Ok(()));
     ends(rt, pool, me, last, false);
     part
 }
@@ -175,7 +178,7 @@ fn hand_over<B: PoolName, R: Abort + Wait>(
     let all = accepted(rt, pool, second, one);
     let part = accepted(rt, pool, second, two);
     assert!(rt; all.thread() == 1 && all.ends() == (3, 4) && part.offset() == 1);
-    assert!(rt; second.get(rt, pool, &part, 2, &mut out) == Ok(()) && out == [8]);
+    assert!(rt; second.get(rt, pool, &part, 2, &mut out) == Ok(()) && out == [6]);
     ends(rt, pool, second, all, false);
     ends(rt, pool, second, part, true);
 }
@@ -198,13 +201,13 @@ pub(crate) fn ends<B: PoolName, R: Abort + Wait>(
 }
 
 // Closes a pool whose threads come last first: they come back, and then are in order.
-fn closes<B: PoolName, R: Abort + Wait>(
+fn closes<B: PoolName, R: Abort>(
     rt: &R,
     alloc: Global,
     pool: Pool<B>,
     threads: Vec<PoolThread<B>>,
 ) {
-    let (pool, mut threads) = match pool.close(rt, alloc, threads) {
+    let (pool, mut threads) = match pool.close(alloc, threads) {
         Ok(_closed) => panic!(rt; "the threads are out of order"),
         Err(NotClosed { why, pool, threads }) => {
             assert!(rt; why == CloseNo::Threads);
@@ -213,7 +216,7 @@ fn closes<B: PoolName, R: Abort + Wait>(
     };
     assert!(rt; threads.len() == 2);
     threads.swap(0, 1);
-    match pool.close(rt, alloc, threads) {
+    match pool.close(alloc, threads) {
         Ok(closed) => assert!(rt; closed.leaks.items().len() == 2),
         Err(back) => {
             back.leave();
@@ -243,6 +246,7 @@ impl<'a, R: Abort + Wait> Serve for Round<'a, R> {
         let all = accesses(rt, &pool, &mut first);
         let part = slices(rt, &pool, &mut first, &all);
         hand_over(rt, &pool, &mut first, &mut second, all, part);
+        owns(rt, &pool, &mut first, &mut second);
         buffer(rt, first.alloc(rt, &pool, 100)).leave();
         buffer(rt, first.alloc(rt, &pool, 100)).leave();
         assert!(rt; refused(first.alloc(rt, &pool, 100)) == Some(AllocNo::NoHandle));

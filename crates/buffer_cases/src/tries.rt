@@ -45,6 +45,10 @@ fn accesses<B: PoolName, R: Abort>(
         Ok(byte) => assert!(rt; byte == Some(8)),
         Err(_no) => panic!(rt; "the byte is shown"),
     }
+    match me.try_with_bytes_mut(pool, buffer, 1, 3, |bytes: &mut [u8]| bytes.reverse()) {
+        Ok(()) => assert!(rt; me.try_get(pool, buffer, 1, &mut out) == Ok(()) && out == [8, 7, 6]),
+        Err(_no) => panic!(rt; "the bytes are lent"),
+    }
     assert!(rt; me.try_touch(pool, buffer) == Ok(()));
 }
 
@@ -137,7 +141,7 @@ impl<'a, R: Abort + Wait> Serve for Tries<'a, R> {
         meets(rt, &pool, &mut first, &mut second);
         threads.push_reserved(first);
         threads.push_reserved(second);
-        match pool.close(rt, alloc, threads) {
+        match pool.close(alloc, threads) {
             Ok(closed) => assert!(rt; closed.leaks.items().len() == 1),
             Err(back) => {
                 back.leave();

@@ -103,20 +103,20 @@ module _ (cs : List Counted) (root : RootId) (c : Counted) (at : slice_get cs ro
   -- what is there is this root, or another one
   pub added_again : ((other : RootId) → other.place ≡ root.place → 0 < counted cs other → other ≡ root)
       → same_root c.root root ≡ true → (other : RootId)
-      → counted (slice_set cs root.place (record { root = c.root; count = c.count + 1; told = c.told })) other
+      → counted (slice_set cs root.place (record c { count = c.count + 1 })) other
       ≡ counted cs other + one_for root other
   added_again alone equal =
       let before : counted cs root ≡ c.count = here root refl ∙ ap (λ (b : Bool). if b then c.count else 0) equal in
-      added alone (record { root = c.root; count = c.count + 1; told = c.told }) (same_root-is c.root root equal)
+      added alone (record c { count = c.count + 1 }) (same_root-is c.root root equal)
       (omega (arith, before))
 
   pub added_first : ((other : RootId) → other.place ≡ root.place → 0 < counted cs other → other ≡ root)
       → same_root c.root root ≡ false → (other : RootId)
-      → counted (slice_set cs root.place (record { root = root; count = 1; told = 0 })) other
+      → counted (slice_set cs root.place (record { root = root; count = 1; told = 0; alone = false })) other
       ≡ counted cs other + one_for root other
   added_first alone differs =
       let before : counted cs root ≡ 0 = here root refl ∙ ap (λ (b : Bool). if b then c.count else 0) differs in
-      added alone (record { root = root; count = 1; told = 0 }) refl (omega (arith, before))
+      added alone (record { root = root; count = 1; told = 0; alone = false }) refl (omega (arith, before))
 
   -- the same root is counted as often as it was
   pub counted_same : (x : Counted) → x.root ≡ c.root → x.count ≡ c.count → (other : RootId)

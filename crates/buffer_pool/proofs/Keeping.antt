@@ -1,5 +1,5 @@
 -- A thread of a pool, once a call has changed its seat and its account.
-use Rattle.std.proofs.Common.{◌≡◌, ℕ, ◌+◌, ◌-◌, ◌^◌, ◌<◌, ◌≤◌, max, Bool, true, false, [], ◌∷◌, length, Some, refl, sym, ap, ◌∙◌, subst, arith}
+use Rattle.std.proofs.Common.{◌≡◌, ℕ, ◌+◌, ◌-◌, ◌^◌, ◌<◌, ◌≤◌, max, Bool, true, false, [], ◌∷◌, length, Option, Some, refl, sym, ap, ◌∙◌, subst, arith}
 use Rattle.std.specs.Prelude.{if◌then◌else◌, slice_get}
 use Rattle.std.proofs.Math.Nat.{le-max_left}
 use Rattle.pool_law.specs.declared.id.RootId.{RootId}
@@ -7,6 +7,7 @@ use Rattle.pool_law.specs.Capacities.{known_of}
 use Rattle.pool_table.specs.Capacities.{knows_of}
 use Rattle.pool_table.specs.Counts.{gained_of, lost_of, HasCount}
 use Rattle.pool_table.specs.LaneLogs.{lane_entries}
+use Rattle.pool_table.specs.Lone.{IsLone}
 use Rattle.pool_table.specs.Letters.{received_on, sent_on}
 use Rattle.pool_table.specs.declared.views.SeatView.{SeatView}
 use Rattle.shared_pool.specs.declared.pool.SharedPool.{SharedPool}
@@ -23,9 +24,11 @@ use Rattle.seat_work.proofs.Proceeding.{works_same}
 use Rattle.buffer_pool.specs.declared.account.Account.{Account}
 use Rattle.buffer_pool.specs.declared.member.Member.{Member}
 use Rattle.buffer_pool.specs.declared.pending.Pending.{Pending}
-use Rattle.buffer_pool.specs.Counting.{counted, known, told}
+use Rattle.buffer_pool.specs.Alone.{KeepsAlone}
+use Rattle.buffer_pool.specs.Counting.{counted, is_alone, known, told}
 use Rattle.buffer_pool.specs.Pendings.{hand_of, nothing, owed, IsPending}
 use Rattle.buffer_pool.specs.Threads.{Does, HasChanged, IsSettled, IsThread}
+use Rattle.buffer_pool.proofs.Alone.{keeps, Stays}
 use Rattle.buffer_pool.proofs.Letters.{KeepsLetters}
 use Rattle.buffer_pool.proofs.Pendings.{pending_stays}
 
@@ -125,13 +128,14 @@ module _ (pool : SharedPool) (c : Change) (t m cost : ℕ) (old new : Member) (i
   abbrev b : Account
   b = new.account
 
-  changed : HasChanged cost c old new
-  changed = record {
+  changed : (but : Option RootId) → KeepsAlone but old new → HasChanged cost c but old new
+  changed but alone = record {
     number = spends.lane;
     spent = spends.turns;
     counts = spends.counts;
     notes = changes;
     knows = λ root lt. (let p = spends.keeps root lt in omega (arith, p));
+    alone = alone;
   }
 
   -- no more than the seat knows, where no more was told
@@ -149,6 +153,10 @@ module _ (pool : SharedPool) (c : Change) (t m cost : ℕ) (old new : Member) (i
   still_counts root =
       let p = is.counts root in let q = spends.counts root in let r = changes.counts root in omega (arith, p, q, r)
 
+  -- each root that is kept as its own alone is so
+  abbrev Owns : Type 0
+  Owns = (root : RootId) → is_alone b.counts root ≡ true → IsLone root (view_of new.seat)
+
   module _ (knows : (root : RootId) → told b.counts root ≤ knows_of root (view_of new.seat))
       (enough : t + owed new.pending ≤ cost + owed old.pending) (moves : b.moves ≤ (view_of new.seat).moves)
       (pending : IsPending pool new.seat new.pending) where
@@ -156,8 +164,8 @@ module _ (pool : SharedPool) (c : Change) (t m cost : ℕ) (old new : Member) (i
         ≤ cost + sent_on a.lane to (view_of old.seat).own.notes)
         → ((from : ℕ) → from < pool.table.layout.shape.lanes →
         slice_get b.received.items from ≡ Some (received_on from a.lane (view_of new.seat).own.notes))
-        → IsThread pool new
-    thread sent received = record {
+        → Owns → IsThread pool new
+    thread sent received owns = record {
       works = record {
         seat = goes.seat;
         held = goes.held;
@@ -171,6 +179,7 @@ module _ (pool : SharedPool) (c : Change) (t m cost : ℕ) (old new : Member) (i
       number = goes.number ∙ is.number ∙ ap (λ (n : ℕ). Some n) (sym spends.lane);
       counts = still_counts;
       knows = knows;
+      alone = owns;
       places = spends.places ∙ is.places;
       few =
           λ root.
@@ -191,16 +200,23 @@ module _ (pool : SharedPool) (c : Change) (t m cost : ℕ) (old new : Member) (i
         ≤ cost + sent_on a.lane to (view_of old.seat).own.notes)
         → ((from : ℕ) → from < pool.table.layout.shape.lanes →
         slice_get b.received.items from ≡ Some (received_on from a.lane (view_of new.seat).own.notes))
-        → Does pool cost c old new
-    kept_by sent received = record { changed = changed; thread = thread sent received }
+        → (but : Option RootId) → KeepsAlone but old new → Owns → Does pool cost c but old new
+    kept_by sent received but alone owns = record {
+      changed = changed but alone;
+      thread = thread sent received owns;
+    }
 
     -- where there were none
-    pub kept_on : KeepsLetters old.seat new.seat → b.received ≡ a.received → Does pool cost c old new
-    kept_on letters same =
+    pub kept_on : KeepsLetters old.seat new.seat → b.received ≡ a.received → (but : Option RootId)
+        → Stays but old.seat new.seat
+        → ((root : RootId) → is_alone b.counts root ≡ true → is_alone a.counts root ≡ true)
+        → Does pool cost c but old new
+    kept_on letters same but stays less =
         kept_by (λ to. (let p = letters.sent a.lane to in omega (arith, p)))
         (λ from lt.
         ap (λ v. slice_get v.items from) same ∙ is.received from lt
-        ∙ ap (λ (n : ℕ). Some n) (sym (letters.received from a.lane)))
+        ∙ ap (λ (n : ℕ). Some n) (sym (letters.received from a.lane))) but (keeps but old new stays)
+        (λ root kept. stays.alone root (is.alone root (less root kept)))
 
 -- the same where there was nothing to put away, and still isn't
 module _ (pool : SharedPool) (c : Change) (t m cost : ℕ) (old new : Member) (is : IsThread pool old)
@@ -218,7 +234,9 @@ module _ (pool : SharedPool) (c : Change) (t m cost : ℕ) (old new : Member) (i
 
   pub settled_on : ((root : RootId) → told new.account.counts root ≤ knows_of root (view_of new.seat)) → t ≤ cost
       → new.account.moves ≤ (view_of new.seat).moves → KeepsLetters old.seat new.seat
-      → new.account.received ≡ old.account.received → Does pool cost c old new
+      → new.account.received ≡ old.account.received → (but : Option RootId) → Stays but old.seat new.seat
+      → ((root : RootId) → is_alone new.account.counts root ≡ true → is_alone old.account.counts root ≡ true)
+      → Does pool cost c but old new
   settled_on knows enough moves =
       kept_on pool c t m cost old new is goes_so changes spends knows
       (let a = ap owed same in omega (arith, a, enough)) moves (subst (IsPending pool new.seat) none tt)
@@ -238,6 +256,7 @@ module _ (pool : SharedPool) (m : Member) (is : IsThread pool m) where
         subst (λ (v : SeatView). counted m.account.counts root + lost_of root v ≡ gained_of root v) (sym same)
         (is.counts root);
     knows = λ root. subst (λ (v : SeatView). told m.account.counts root ≤ knows_of root v) (sym same) (is.knows root);
+    alone = λ root kept. subst (λ (v : SeatView). IsLone root v) (sym same) (is.alone root kept);
     places = is.places;
     few = is.few;
     sent =

@@ -54,6 +54,7 @@ new_kept pool l k a s is le new opened = record {
       (let b = new.counts root in let c = no_counts (view_of s) opened.notes opened.seat.alone root in
       omega (arith, b, c));
   knows = λ root. (let b = new.untold root in omega (arith, b));
+  alone = λ root kept. absurd (cc (sym kept ∙ new.alone root));
   places = subst (λ (x : Layout). length a.counts ≡ x.shape.lanes * x.shape.handles) (sym is) new.places;
   few = λ root. (let b = new.counts root in let c = new.turns in omega (arith, b, c, le));
   sent =

@@ -1,5 +1,5 @@
 -- A thread that gives back what its caches keep, step by step.
-use Rattle.std.proofs.Common.{◌≡◌, ℕ, ◌+◌, ◌-◌, ◌<◌, ◌≤◌, Bool, false, refl, sym, ap, ◌∙◌, subst, ⊎_elim, arith}
+use Rattle.std.proofs.Common.{◌≡◌, ℕ, ◌+◌, ◌-◌, ◌<◌, ◌≤◌, Bool, false, None, refl, sym, ap, ◌∙◌, subst, ⊎_elim, arith}
 use Rattle.std.proofs.Math.Nat.{eq-or-lt_of_le, le_trans}
 use Rattle.pool_law.specs.declared.note.Held.{Held}
 use Rattle.pool_law.specs.declared.note.Object.{Object}
@@ -21,6 +21,8 @@ use Rattle.buffer_pool.specs.Counting.{counted}
 use Rattle.buffer_pool.specs.Pendings.{PutsAway}
 use Rattle.buffer_pool.specs.Threads.{Does, IsThread, Settles}
 use Rattle.buffer_pool.specs.Trims.{AreEmpty, FindsEmpty, HasTrimmed, MayStop, MeetsAny}
+use Rattle.buffer_pool.proofs.Alone.{keeps_on}
+use Rattle.buffer_pool.proofs.AloneLater.{stays_later}
 use Rattle.buffer_pool.proofs.Keeping.{kept_on, spends_none, tells_known}
 use Rattle.buffer_pool.proofs.Letters.{later_letters}
 use Rattle.buffer_pool.proofs.Settling.{same_account, settled, settles_none}
@@ -117,8 +119,8 @@ module _ (pool : SharedPool) where
   stop_on old mid new Busy later is = any_on old.seat mid.seat new.seat later is
   stop_on old mid new Spent later is = is
 
-  does_on : (a b : ℕ) (old mid new : Member) → Does pool a no_change old mid → Does pool b no_change mid new
-      → Does pool (a + b) no_change old new
+  does_on : (a b : ℕ) (old mid new : Member) → Does pool a no_change None old mid → Does pool b no_change None mid new
+      → Does pool (a + b) no_change None old new
   does_on a b old mid new x y =
       let p = x.changed in let q = y.changed in
       record {
@@ -132,6 +134,7 @@ module _ (pool : SharedPool) where
               λ r lt.
               (let v = q.counts r in let some : 0 < counted mid.account.counts r = omega (arith, v, lt) in
               le_trans (p.knows r some) (q.knows r lt));
+          alone = keeps_on None old mid new p.alone q.alone;
         };
       }
 
@@ -174,7 +177,8 @@ module _ (pool : SharedPool) where
             (tells_known pool no_change away.spent 0 2 old after is did.goes did.changes spends (λ root. omega arith))
             (let a = away.within in omega (arith, a))
             (let a = did.goes.moves_left in let b = is.works.moves_left in omega (arith, a, b)) away.pending
-            (later_letters pool old.seat new away.later) refl;
+            (later_letters pool old.seat new away.later) refl None (stays_later pool old.seat new away.later)
+            (λ q kept. kept);
         moves = refl;
         later = away.later;
       }

@@ -10,6 +10,7 @@ use Rattle.seat_work.specs.Changes.{Change, no_change}
 use Rattle.buffer_pool.specs.declared.answers.AllocNo.{AllocNo}
 use Rattle.buffer_pool.specs.declared.answers.AllocNo.TheVariants.{TooLarge, Spent, NoHandle, Full, Worn}
 use Rattle.buffer_pool.specs.declared.member.Member.{Member}
+use Rattle.buffer_pool.specs.Threads.{IsSettled}
 
 -- the thread noted once that it found no handle, or no region, or nothing of either
 abbrev pub alloc_told : AllocNo → Change
@@ -34,22 +35,17 @@ pub record MetWorn (pool : SharedPool) (old new : PoolSeat) : Type 0 where
   pub meets : MeetsWorn pool mid new
 
 -- for want of turns, and where it is too large, the thread is as it was; as worn out, it found the
--- place of the handle that it took so
+-- place of the handle that it took so, which is its first step where it has nothing to put away
 abbrev pub HasCause : SharedPool → Member → Member → AllocNo → Type 0
 HasCause pool old new TooLarge = new ≡ old
 HasCause pool old new Spent = (old.account.turns < 6) × (new ≡ old)
 HasCause pool old new NoHandle = Unit {0}
 HasCause pool old new Full = Unit {0}
-HasCause pool old new Worn = MetWorn pool old.seat new.seat
+HasCause pool old new Worn =
+    MetWorn pool old.seat new.seat × (IsSettled old → MeetsWorn pool old.seat new.seat)
 
 -- the answer to an allocation on the pool, as this crate's
 abbrev pub as_alloc : WorkNo → AllocNo
 as_alloc work.NoHandle = NoHandle
 as_alloc work.Full = Full
 as_alloc work.Worn = Worn
-
--- the cause of a refusal as worn out, from before anything was put away
-abbrev pub MayBeWorn : SharedPool → PoolSeat → PoolSeat → WorkNo → Type 0
-MayBeWorn pool old new work.NoHandle = Unit {0}
-MayBeWorn pool old new work.Full = Unit {0}
-MayBeWorn pool old new work.Worn = MetWorn pool old new

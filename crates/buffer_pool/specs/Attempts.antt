@@ -1,7 +1,6 @@
 -- What one try of an allocation or of a release told, and what it left.
-use Rattle.std.specs.Prelude.{◌≡◌, ℕ}
+use Rattle.std.specs.Prelude.{◌≡◌, ℕ, None}
 use Rattle.shared_pool.specs.declared.pool.SharedPool.{SharedPool}
-use Rattle.shared_pool.specs.declared.seat.PoolSeat.{PoolSeat}
 use Rattle.seat_work.specs.Changes.{Change, no_change}
 use Rattle.seat_tries.specs.declared.allocation.AllocNo.{AllocNo as WorkNo}
 use Rattle.seat_tries.specs.declared.allocation.AllocNo.TheVariants as work
@@ -12,7 +11,7 @@ use Rattle.buffer_pool.specs.declared.answers.TryAllocNo.TheVariants as alloc
 use Rattle.buffer_pool.specs.declared.answers.TryNo.{TryNo}
 use Rattle.buffer_pool.specs.declared.answers.TryNo.TheVariants.{Busy, Refused}
 use Rattle.buffer_pool.specs.declared.member.Member.{Member}
-use Rattle.buffer_pool.specs.Answers.{alloc_told, alloc_turns, HasCause, MetWorn}
+use Rattle.buffer_pool.specs.Answers.{alloc_told, alloc_turns, HasCause}
 use Rattle.buffer_pool.specs.Threads.{HasChanged}
 
 -- ---- Allocations.
@@ -32,18 +31,12 @@ abbrev pub HasTryCause : SharedPool → Member → Member → TryAllocNo → Typ
 HasTryCause pool old new alloc.Busy = MeetsOther pool old.seat new.seat
 HasTryCause pool old new (alloc.Refused why) = HasCause pool old new why
 
--- the answer to a try on the pool, as this crate's, and its cause there
+-- the answer to a try on the pool, as this crate's
 abbrev pub as_try : WorkNo → TryAllocNo
 as_try work.Busy = alloc.Busy
 as_try work.NoHandle = alloc.Refused NoHandle
 as_try work.Full = alloc.Refused Full
 as_try work.Worn = alloc.Refused Worn
-
-abbrev pub HasSeatCause : SharedPool → PoolSeat → PoolSeat → WorkNo → Type 0
-HasSeatCause pool old new work.Busy = MeetsOther pool old new
-HasSeatCause pool old new work.NoHandle = Unit {0}
-HasSeatCause pool old new work.Full = Unit {0}
-HasSeatCause pool old new work.Worn = MetWorn pool old new
 
 -- ---- Releases.
 
@@ -51,5 +44,6 @@ HasSeatCause pool old new work.Worn = MetWorn pool old new
 -- was to be put away first
 abbrev pub LeavesCounted : SharedPool → Member → Member → TryNo → Type 0
 LeavesCounted pool old new Busy =
-    (new.account ≡ old.account) × HasChanged 0 no_change old new × MeetsOther pool old.seat new.seat
+    (new.account ≡ old.account) × HasChanged 0 no_change None old new
+    × MeetsOther pool old.seat new.seat
 LeavesCounted pool old new (Refused why) = new ≡ old

@@ -1,5 +1,5 @@
 -- What one try of an ask for capacity told, and what it left.
-use Rattle.std.specs.Prelude.{◌≡◌, ℕ, ◌+◌, ◌≤◌, false, Option, None, Result, Ok, Err}
+use Rattle.std.specs.Prelude.{◌≡◌, ℕ, ◌+◌, ◌≤◌, false, Option, None, Some, Result, Ok, Err}
 use Rattle.pool_law.specs.declared.id.RootId.{RootId}
 use Rattle.pool_law.specs.declared.note.Held.{Held}
 use Rattle.pool_law.specs.declared.note.Object.{Object}
@@ -42,8 +42,8 @@ pub record MeetsOtherBut (root : RootId) (pool : SharedPool) (old new : PoolSeat
 -- what a call left of the thread that got no capacity
 abbrev pub LeavesAsked : SharedPool → RootId → Member → Member → TryCapacityNo → Type 0
 LeavesAsked pool root old new Busy =
-    HasChanged 6 no_change old new × MeetsOtherBut root pool old.seat new.seat
-LeavesAsked pool root old new (Refused why) = LeavesThread old new why
+    HasChanged 6 no_change (Some root) old new × MeetsOtherBut root pool old.seat new.seat
+LeavesAsked pool root old new (Refused why) = LeavesThread root old new why
 
 -- ---- At the seat.
 

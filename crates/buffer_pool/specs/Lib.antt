@@ -1,8 +1,10 @@
 pub mod Counting
 pub mod Windows
 pub mod Pendings
+pub mod Alone
 pub mod Threads
 pub mod Refusals
+pub mod Lones
 pub mod Tries
 pub mod Answers
 pub mod Attempts

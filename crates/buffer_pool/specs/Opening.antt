@@ -1,11 +1,11 @@
 -- The threads of a new pool.
-use Rattle.std.specs.Prelude.{◌≡◌, ℕ, ◌*◌, ◌<◌, List, length, Some, slice_get}
+use Rattle.std.specs.Prelude.{◌≡◌, ℕ, ◌*◌, ◌<◌, false, List, length, Some, slice_get}
 use Rattle.pool_law.specs.declared.id.RootId.{RootId}
 use Rattle.pool_table.specs.declared.views.Layout.{Layout}
 use Rattle.shared_pool.specs.declared.pool.SharedPool.{SharedPool}
 use Rattle.shared_pool.specs.declared.seat.PoolSeat.{PoolSeat}
 use Rattle.buffer_pool.specs.declared.account.Account.{Account}
-use Rattle.buffer_pool.specs.Counting.{counted, told}
+use Rattle.buffer_pool.specs.Counting.{counted, is_alone, told}
 use Rattle.buffer_pool.specs.Pendings.{nothing}
 use Rattle.buffer_pool.specs.Threads.{IsKept}
 
@@ -16,6 +16,7 @@ pub record IsNew (l : Layout) (lane : ℕ) (a : Account) : Type 0 where
   pub moves : a.moves ≡ l.moves
   pub counts : (root : RootId) → counted a.counts root ≡ 0
   pub untold : (root : RootId) → told a.counts root ≡ 0
+  pub alone : (root : RootId) → is_alone a.counts root ≡ false
   pub places : length a.counts ≡ l.shape.lanes * l.shape.handles
   pub received : (from : ℕ) → from < l.shape.lanes → slice_get a.received.items from ≡ Some 0
 

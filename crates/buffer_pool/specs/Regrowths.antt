@@ -1,5 +1,6 @@
 -- Why a buffer did not get the capacity that was asked, and what that left.
 use Rattle.std.specs.Prelude.{◌≡◌, ℕ, nat_lt, if◌then◌else◌, Option, Some, None}
+use Rattle.pool_law.specs.declared.id.RootId.{RootId}
 use Rattle.size_classes.specs.Sizes.{Geometry, chunk_bytes}
 use Rattle.seat_work.specs.Changes.{no_change}
 use Rattle.buffer_pool.specs.declared.account.Account.{Account}
@@ -26,9 +27,10 @@ IsRefusedBy cause TooLarge = cause ≡ Some TooLarge
 IsRefusedBy cause Spent = cause ≡ Some Spent
 IsRefusedBy cause Full = cause ≡ None
 
--- the thread is as it was, but that it noted once that its arena was full
-abbrev pub LeavesThread : Member → Member → CapacityNo → Type 0
-LeavesThread old new NotHere = new ≡ old
-LeavesThread old new TooLarge = new ≡ old
-LeavesThread old new Spent = new ≡ old
-LeavesThread old new Full = HasChanged 6 (record no_change { full = 1 }) old new
+-- the thread is as it was, but that it noted once that its arena was full, as it asked for this root
+abbrev pub LeavesThread : RootId → Member → Member → CapacityNo → Type 0
+LeavesThread root old new NotHere = new ≡ old
+LeavesThread root old new TooLarge = new ≡ old
+LeavesThread root old new Spent = new ≡ old
+LeavesThread root old new Full =
+    HasChanged 6 (record no_change { full = 1 }) (Some root) old new

@@ -1,5 +1,5 @@
 -- What a thread did that gave back what its caches kept.
-use Rattle.std.specs.Prelude.{◌≡◌, ℕ, ◌<◌, Bool}
+use Rattle.std.specs.Prelude.{◌≡◌, ℕ, ◌<◌, Bool, None}
 use Rattle.pool_law.specs.declared.note.Did.{Did}
 use Rattle.pool_law.specs.declared.note.Held.{Held}
 use Rattle.pool_law.specs.declared.note.Object.{Object}
@@ -54,7 +54,7 @@ MayStop pool old new Spent = new.account.turns < 2
 -- what the thread did: it spent turns, and nothing changed of what it counts
 pub record HasTrimmed (pool : SharedPool) (old new : Member) : Type 0 where
   pub spent : ℕ
-  pub does : Does pool spent no_change old new
+  pub does : Does pool spent no_change None old new
   pub moves : new.account.moves ≡ old.account.moves
   pub later : IsLater pool old.seat new.seat
 

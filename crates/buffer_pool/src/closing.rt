@@ -20,7 +20,6 @@ use crate::work::settling::{is_nothing, nothing, spend};
 use shared_pool::{PoolSeat, SharedPool};
 use std::alloc::{AllocError, Global};
 use std::mem::ManuallyDrop;
-use std::sync::Wait;
 
 /// A pool that was not closed, and its threads.
 pub struct NotClosed<B: PoolName> {
@@ -62,12 +61,7 @@ impl<B: PoolName> Pool<B> {
     /// Closes the pool with all its threads, in the order of their numbers, and tells what stands:
     /// the chunks in use, and the leaks. A leak is a watched buffer, some count of which was never
     /// released. A refusal hands all back as it was.
-    pub fn close<W: Wait>(
-        self,
-        rt: &W,
-        alloc: Global,
-        threads: Vec<PoolThread<B>>,
-    ) -> Result<Closed, NotClosed<B>>
+    pub fn close(self, alloc: Global, threads: Vec<PoolThread<B>>) -> Result<Closed, NotClosed<B>>
         ensures all { IfOk result (λ closed. AreAll self threads.items) }
         ensures chunks { IfOk result (λ closed. let shape = self.table.layout.shape in
             let logs = logs_in (parts_of threads.items) in
@@ -97,7 +91,7 @@ impl<B: PoolName> Pool<B> {
             rests,
         } = room;
         let (members, threads) = members_of::<B>(&shared, threads, members);
-        match close_all(rt, alloc, lanes, shared, members, seats, rests) {
+        match close_all(alloc, lanes, shared, members, seats, rests) {
             Ok(closed) => {
                 threads.destroy_empty();
                 Ok(closed)
@@ -144,8 +138,7 @@ impl Room {
 }
 
 // Closes the pool with these threads, if they are all, by number.
-fn close_all<W: Wait>(
-    rt: &W,
+fn close_all(
     alloc: Global,
     lanes: u32,
     shared: SharedPool,
@@ -175,7 +168,7 @@ fn close_all<W: Wait>(
         return Err((CloseNo::Unsettled, shared, members));
     }
     let (seats, rests, members) = parted(members, seats, rests);
-    match shared.close(rt, alloc, seats) {
+    match shared.close(alloc, seats) {
         Ok(end) => {
             members.destroy_empty();
             Ok(Closed {

@@ -9,6 +9,7 @@ mod closing;
 mod config;
 mod counts;
 mod limits;
+mod lone;
 mod member;
 mod name;
 mod opening;
@@ -28,6 +29,7 @@ pub use answers::{
 pub use buffer::Buffer;
 pub use closing::NotClosed;
 pub use config::Config;
+pub use lone::Lone;
 pub use name::PoolName;
 pub use opening::{Serve, open};
 pub use parcel::Parcel;

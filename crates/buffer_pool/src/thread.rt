@@ -10,6 +10,8 @@ mod attempts;
 mod buffers;
 mod bytes;
 mod growth;
+mod in_place;
+mod lones;
 mod parcels;
 mod settling;
 mod tries;

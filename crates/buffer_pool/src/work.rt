@@ -5,6 +5,7 @@ pub(crate) mod allocation;
 pub(crate) mod attempted;
 pub(crate) mod counting;
 pub(crate) mod growth;
+pub(crate) mod in_place;
 pub(crate) mod passing;
 pub(crate) mod settling;
 pub(crate) mod trimming;

@@ -32,7 +32,7 @@ impl<'a, R: Print + Wait> Serve for Hello<'a, R> {
         }
         let text = str::from_utf8(&text).unwrap_or("no text");
         let said = println!(rt; "{text}; was that the last count? {last:?}");
-        let leaks = match pool.close(rt, alloc, threads) {
+        let leaks = match pool.close(alloc, threads) {
             Ok(closed) => Some(closed.leaks.items().len()),
             Err(back) => {
                 back.leave();

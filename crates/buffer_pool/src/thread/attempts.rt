@@ -36,14 +36,14 @@ impl<B: PoolName> PoolThread<B> {
             × (b.thread ≡ self.old.account.lane)) }
         ensures here { IfOk result (λ b. IsTrue (is_here self.new.account b)) }
         ensures changed { IfOk result (λ b.
-            HasChanged 6 (once_more b.at.root) self.old self.new) }
+            HasChanged 6 (once_more b.at.root) None self.old self.new) }
         ensures born { IfOk result (λ b.
             HasBorn pool.now b.at.root self.old.seat self.new.seat) }
         ensures moves { self.new.account.moves ≡ self.old.account.moves }
         ensures too_large { (result ≡ Err (TryAllocNo.Refused AllocNo.TooLarge))
             ↔ (chunk_bytes (geometry_of pool.now.table.layout.shape) < size) }
         ensures refused { IfErr result (λ no.
-            HasChanged (try_turns no) (try_told no) self.old self.new) }
+            HasChanged (try_turns no) (try_told no) None self.old self.new) }
         ensures cause { IfErr result (HasTryCause pool.now self.old self.new) }
     {
         let Some(class) = pool.sizes.class_of(size) else {
@@ -75,7 +75,7 @@ impl<B: PoolName> PoolThread<B> {
         ensures answers { let no = call_no self.old.account buffer 4 in
             MatchResult result (λ _. no ≡ None) (λ back. IsTried no back.why) }
         ensures changed { IfOk result (λ last.
-            HasChanged 4 (once_less buffer.at.root last) self.old self.new) }
+            HasChanged 4 (once_less buffer.at.root last) None self.old self.new) }
         ensures moves { IfOk result (λ last.
             self.new.account.moves ≡ moves_after last self.old.account.moves) }
         ensures back { IfErr result (λ back. back.buffer ≡ buffer) }

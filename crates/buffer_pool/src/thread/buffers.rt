@@ -46,14 +46,14 @@ impl<B: PoolName> PoolThread<B> {
             × (b.thread ≡ self.old.account.lane)) }
         ensures here { IfOk result (λ b. IsTrue (is_here self.new.account b)) }
         ensures changed { IfOk result (λ b.
-            HasChanged 6 (once_more b.at.root) self.old self.new) }
+            HasChanged 6 (once_more b.at.root) None self.old self.new) }
         ensures born { IfOk result (λ b.
             HasBorn pool.now b.at.root self.old.seat self.new.seat) }
         ensures moves { self.new.account.moves ≡ self.old.account.moves }
         ensures too_large { (result ≡ Err AllocNo.TooLarge)
             ↔ (chunk_bytes (geometry_of pool.now.table.layout.shape) < size) }
         ensures refused { IfErr result (λ no.
-            HasChanged (alloc_turns no) (alloc_told no) self.old self.new) }
+            HasChanged (alloc_turns no) (alloc_told no) None self.old self.new) }
         ensures cause { IfErr result (HasCause pool.now self.old self.new) }
     {
         let Some(class) = pool.sizes.class_of(size) else {
@@ -62,8 +62,7 @@ impl<B: PoolName> PoolThread<B> {
         if self.member.account.turns < ALLOC_TURNS {
             return Err(AllocNo::Spent);
         }
-        let watch = self.member.watcher.next();
-        match allocate(rt, &pool.shared, &mut self.member, size, class, watch) {
+        match allocate(rt, &pool.shared, &mut self.member, size, class) {
             Ok(root) => Ok(Buffer {
                 view: View::of_root(root),
                 thread: self.member.account.lane,
@@ -84,7 +83,7 @@ impl<B: PoolName> PoolThread<B> {
         ensures answers { let no = call_no self.old.account buffer 4 in
             MatchResult result (λ _. no ≡ None) (λ back. no ≡ Some back.why) }
         ensures changed { IfOk result (λ last.
-            HasChanged 4 (once_less buffer.at.root last) self.old self.new) }
+            HasChanged 4 (once_less buffer.at.root last) None self.old self.new) }
         ensures moves { IfOk result (λ last.
             self.new.account.moves ≡ moves_after last self.old.account.moves) }
         ensures back { IfErr result (λ back. (back.buffer ≡ buffer) × (self.new ≡ self.old)) }
@@ -107,7 +106,7 @@ impl<B: PoolName> PoolThread<B> {
         ensures buffer { IfOk result (λ b. b ≡ buffer.now) }
         ensures here { IfOk result (λ b. IsTrue (is_here self.new.account b)) }
         ensures changed { IfOk result (λ b.
-            HasChanged 1 (once_more b.at.root) self.old self.new) }
+            HasChanged 1 (once_more b.at.root) None self.old self.new) }
         ensures moves { OnOk result (self.new.account.moves + 1 ≡ self.old.account.moves) }
         ensures unchanged { OnErr result (self.new ≡ self.old) }
     {
@@ -131,7 +130,7 @@ impl<B: PoolName> PoolThread<B> {
             (b.at ≡ slice_of buffer.now.at start len) × (b.thread ≡ buffer.now.thread)) }
         ensures here { IfOk result (λ b. IsTrue (is_here self.new.account b)) }
         ensures changed { IfOk result (λ b.
-            HasChanged 1 (once_more b.at.root) self.old self.new) }
+            HasChanged 1 (once_more b.at.root) None self.old self.new) }
         ensures moves { OnOk result (self.new.account.moves + 1 ≡ self.old.account.moves) }
         ensures unchanged { OnErr result (self.new ≡ self.old) }
     {
@@ -151,7 +150,7 @@ impl<B: PoolName> PoolThread<B> {
         requires moves { 1 ≤ self.old.account.moves }
         ensures buffer { (result.at ≡ view.at) × (result.thread ≡ self.old.account.lane) }
         ensures here { IsTrue (is_here self.new.account result) }
-        ensures changed { HasChanged 1 (once_more view.at.root) self.old self.new }
+        ensures changed { HasChanged 1 (once_more view.at.root) None self.old self.new }
         ensures moves { self.new.account.moves + 1 ≡ self.old.account.moves }
     {
         counting::retain(&pool.shared, &mut self.member, view.at.root);

@@ -1,10 +1,11 @@
 //! How buffers get longer.
 
-ghost use Rattle.std.specs.Prelude.{◌≡◌, ◌≤◌, IfErr, IfOk, IsTrue, MatchResult, None, OnErr, OnOk};
+ghost use Rattle.std.specs.Prelude.{◌≡◌, ◌≤◌, IfErr, IfOk, IsTrue, MatchResult, None, OnErr, OnOk, Some};
 ghost use Rattle.pool_law.specs.Limits.{geometry_of};
 ghost use Rattle.pool_law.specs.Views.{reaching, LiesIn};
 ghost use Rattle.seat_work.specs.Changes.{no_change};
 ghost use Rattle.seat_work.specs.Regrowths.{IsTold};
+ghost use Rattle.buffer_pool.specs.Alone.{GrowsAlone};
 ghost use Rattle.buffer_pool.specs.Growths.{IsTriedBy, LeavesAsked};
 ghost use Rattle.buffer_pool.specs.Refusals.{is_here};
 ghost use Rattle.buffer_pool.specs.Regrowths.{capacity_no, IsRefusedBy, LeavesThread};
@@ -46,10 +47,13 @@ impl<B: PoolName> PoolThread<B> {
             × (buffer.new ≡ record buffer.old { at = reaching bytes buffer.old.at })) }
         ensures told { IfOk result (λ bytes.
             IsTold pool.now buffer.old.at.root bytes self.old.seat self.new.seat) }
-        ensures changed { OnOk result (HasChanged 6 no_change self.old self.new) }
+        ensures changed { OnOk result
+            (HasChanged 6 no_change (Some buffer.old.at.root) self.old self.new) }
+        ensures alone { GrowsAlone buffer.old.at.root self.old self.new }
         ensures here { OnOk result (IsTrue (is_here self.new.account buffer.new)) }
         ensures moves { self.new.account.moves ≡ self.old.account.moves }
-        ensures refused { IfErr result (LeavesThread self.old self.new) }
+        ensures refused { IfErr result
+            (LeavesThread buffer.old.at.root self.old self.new) }
         ensures unchanged { OnErr result (buffer.new ≡ buffer.old) }
     {
         if !self.member.account.is_here(&*buffer) {
@@ -88,7 +92,9 @@ impl<B: PoolName> PoolThread<B> {
             × (buffer.new ≡ record buffer.old { at = reaching bytes buffer.old.at })) }
         ensures told { IfOk result (λ bytes.
             IsTold pool.now buffer.old.at.root bytes self.old.seat self.new.seat) }
-        ensures changed { OnOk result (HasChanged 6 no_change self.old self.new) }
+        ensures changed { OnOk result
+            (HasChanged 6 no_change (Some buffer.old.at.root) self.old self.new) }
+        ensures alone { GrowsAlone buffer.old.at.root self.old self.new }
         ensures here { OnOk result (IsTrue (is_here self.new.account buffer.new)) }
         ensures moves { self.new.account.moves ≡ self.old.account.moves }
         ensures left { IfErr result

@@ -34,7 +34,8 @@ impl<B: PoolName> PoolThread<B> {
         ensures parcel { IfOk result (λ p.
             p ≡ next_letter to (record { view = Some buffer.at }) (view_of self.old.seat)) }
         ensures changed { IfOk result (λ p.
-            HasChanged 1 (record no_change { gone = buffer.at.root ∷ [] }) self.old self.new) }
+            HasChanged 1 (record no_change { gone = buffer.at.root ∷ [] }) (Some buffer.at.root)
+            self.old self.new) }
         ensures moves { OnOk result (self.new.account.moves ≡ self.old.account.moves) }
         ensures back { IfErr result (λ back. (back.buffer ≡ buffer) × (self.new ≡ self.old)) }
     {
@@ -67,7 +68,7 @@ impl<B: PoolName> PoolThread<B> {
             (parcel.parcel.view ≡ Some b.at) × (b.thread ≡ self.old.account.lane)) }
         ensures here { IfOk result (λ b. IsTrue (is_here self.new.account b)) }
         ensures changed { IfOk result (λ b.
-            HasChanged 1 (once_more b.at.root) self.old self.new) }
+            HasChanged 1 (once_more b.at.root) None self.old self.new) }
         ensures moves { OnOk result (self.new.account.moves ≡ self.old.account.moves) }
         ensures back { IfErr result (λ back. (back.parcel ≡ parcel) × (self.new ≡ self.old)) }
     {

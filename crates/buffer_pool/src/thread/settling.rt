@@ -1,6 +1,6 @@
 //! How a thread puts away what calls that never wait began.
 
-ghost use Rattle.std.specs.Prelude.{◌≡◌, ◌↔◌, false, IsTrue};
+ghost use Rattle.std.specs.Prelude.{◌≡◌, ◌↔◌, false, IsTrue, None};
 ghost use Rattle.seat_work.specs.Changes.{no_change};
 ghost use Rattle.seat_tries.specs.Leaving.{MeetsOther};
 ghost use Rattle.buffer_pool.specs.Threads.{HasChanged, IsSettled};
@@ -24,7 +24,7 @@ impl<B: PoolName> PoolThread<B> {
     /// it is left. The thread's buffers, counts, turns and moves stay as they are.
     pub fn try_settle(&mut self, pool: &Pool<B>) -> bool
         ensures settled { IsTrue result ↔ IsSettled self.new }
-        ensures changed { HasChanged 0 no_change self.old self.new }
+        ensures changed { HasChanged 0 no_change None self.old self.new }
         ensures account { self.new.account ≡ self.old.account }
         ensures cause { result ≡ false → MeetsOther pool.now self.old.seat self.new.seat }
     {
@@ -35,7 +35,7 @@ impl<B: PoolName> PoolThread<B> {
     /// and moves stay as they are.
     pub fn settle<W: Wait>(&mut self, rt: &W, pool: &Pool<B>)
         ensures settled { IsSettled self.new }
-        ensures changed { HasChanged 0 no_change self.old self.new }
+        ensures changed { HasChanged 0 no_change None self.old self.new }
         ensures account { self.new.account ≡ self.old.account }
     {
         settling::settle(rt, &pool.shared, &mut self.member);

@@ -2,14 +2,16 @@
 //! thread is at the buffer's bytes just then, it answers that they are busy, and nothing has changed.
 //! It is refused as the call of the same name that waits.
 
-ghost use Rattle.std.specs.Prelude.{◌≡◌, ℕ, List, length, IfErr, IfOk, MatchResult, None, OnErr, OnOk};
+ghost use Rattle.std.specs.Prelude.{◌≡◌, ℕ, List, length, IfErr, IfOk, MatchResult, None, OnErr, OnOk, Some};
 ghost use Rattle.std.specs.Fn.{FnOnceReturnsAt};
 ghost use Rattle.pool_law.specs.declared.note.Did.{Did};
 ghost use Rattle.pool_law.specs.declared.note.Object.TheVariants.{Root};
+ghost use Rattle.pool_law.specs.Roots.{bytes_at};
 ghost use Rattle.pool_law.specs.Views.{after_read, after_write, can_read, can_write, in_range, root_index};
 ghost use Rattle.shared_pool.specs.RootNotes.{access};
 ghost use Rattle.shared_pool.specs.Seats.{IsNoted};
 ghost use Rattle.seat_work.specs.Changes.{no_change};
+ghost use Rattle.buffer_pool.specs.Alone.{laid_in, AreLaid, IsAlone, LaysOver};
 ghost use Rattle.buffer_pool.specs.Refusals.{call_no, part_no};
 ghost use Rattle.buffer_pool.specs.Threads.{HasChanged};
 ghost use Rattle.buffer_pool.specs.Tries.{IsTried, Leaves};
@@ -34,7 +36,10 @@ impl<B: PoolName> PoolThread<B> {
             let inside = in_range b.at start (length bytes.now) in
             let no = part_no self.old.account b inside 1 0 in
             MatchResult result (λ _. no ≡ None) (IsTried no) }
-        ensures changed { OnOk result (HasChanged 1 no_change self.old self.new) }
+        ensures changed { OnOk result (let root = buffer.now.at.root in
+            HasChanged 1 no_change (Some root) self.old self.new) }
+        ensures laid { OnOk result (let b = buffer.now in
+            LaysOver b.at.root (root_index b.at start) bytes.now self.old self.new) }
         ensures moves { OnOk result (self.new.account.moves ≡ self.old.account.moves) }
         ensures noted { OnOk result (let b = buffer.now in (number : ℕ)
             × IsNoted pool.now self.old.seat self.new.seat (Root b.at.root.place) number
@@ -63,7 +68,9 @@ impl<B: PoolName> PoolThread<B> {
             let inside = in_range b.at start (length out.old) in
             let no = part_no self.old.account b inside 1 0 in
             MatchResult result (λ _. no ≡ None) (IsTried no) }
-        ensures changed { OnOk result (HasChanged 1 no_change self.old self.new) }
+        ensures changed { OnOk result (HasChanged 1 no_change None self.old self.new) }
+        ensures own { OnOk result (let b = buffer.now in
+            AreLaid self.old b.at.root (root_index b.at start) out.new) }
         ensures moves { OnOk result (self.new.account.moves ≡ self.old.account.moves) }
         ensures noted { OnOk result (let b = buffer.now in (number : ℕ)
             × IsNoted pool.now self.old.seat self.new.seat (Root b.at.root.place) number
@@ -93,7 +100,10 @@ impl<B: PoolName> PoolThread<B> {
             let inside = can_write b.at (length bytes.now) in
             let no = part_no self.old.account b inside 1 0 in
             MatchResult result (λ _. no ≡ None) (IsTried no) }
-        ensures changed { OnOk result (HasChanged 1 no_change self.old self.new) }
+        ensures changed { OnOk result (let root = buffer.old.at.root in
+            HasChanged 1 no_change (Some root) self.old self.new) }
+        ensures laid { OnOk result (let b = buffer.old in
+            LaysOver b.at.root (root_index b.at b.at.writer) bytes.now self.old self.new) }
         ensures moves { OnOk result (self.new.account.moves ≡ self.old.account.moves) }
         ensures moved { OnOk result
             (buffer.new ≡ record buffer.old { at = after_write buffer.old.at (length bytes.now) }) }
@@ -122,7 +132,9 @@ impl<B: PoolName> PoolThread<B> {
             let inside = can_read b.at (length out.old) in
             let no = part_no self.old.account b inside 1 0 in
             MatchResult result (λ _. no ≡ None) (IsTried no) }
-        ensures changed { OnOk result (HasChanged 1 no_change self.old self.new) }
+        ensures changed { OnOk result (HasChanged 1 no_change None self.old self.new) }
+        ensures own { OnOk result (let b = buffer.old in
+            AreLaid self.old b.at.root (root_index b.at b.at.reader) out.new) }
         ensures moves { OnOk result (self.new.account.moves ≡ self.old.account.moves) }
         ensures moved { OnOk result
             (buffer.new ≡ record buffer.old { at = after_read buffer.old.at (length out.old) }) }
@@ -156,7 +168,10 @@ impl<B: PoolName> PoolThread<B> {
         ensures answers { let b = buffer.now in
             let no = part_no self.old.account b (in_range b.at start len) 1 0 in
             MatchResult result (λ _. no ≡ None) (λ e. IsTried no e.0) }
-        ensures changed { OnOk result (HasChanged 1 no_change self.old self.new) }
+        ensures changed { OnOk result (HasChanged 1 no_change None self.old self.new) }
+        ensures own { IfOk result (λ answer. let b = buffer.now in IsAlone self.old b.at.root →
+            FnOnceReturnsAt F.FnOnce f
+            (bytes_at (laid_in self.old b.at.root) (root_index b.at start) len) answer) }
         ensures moves { OnOk result (self.new.account.moves ≡ self.old.account.moves) }
         ensures shown { IfOk result (λ answer. let b = buffer.now in
             (bytes : List ℕ) × (number : ℕ) × (length bytes ≡ len)
@@ -182,7 +197,7 @@ impl<B: PoolName> PoolThread<B> {
         ensures answers { let b = buffer.now in
             let no = call_no self.old.account b 1 in
             MatchResult result (λ _. no ≡ None) (IsTried no) }
-        ensures changed { OnOk result (HasChanged 1 no_change self.old self.new) }
+        ensures changed { OnOk result (HasChanged 1 no_change None self.old self.new) }
         ensures moves { OnOk result (self.new.account.moves ≡ self.old.account.moves) }
         ensures noted { OnOk result (let b = buffer.now in (number : ℕ)
             × IsNoted pool.now self.old.seat self.new.seat (Root b.at.root.place) number

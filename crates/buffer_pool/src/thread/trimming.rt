@@ -1,6 +1,6 @@
 //! How an idle thread gives back what its caches keep.
 
-ghost use Rattle.std.specs.Prelude.{◌≡◌, ◌-◌, ◌<◌, IfErr, OnErr, OnOk};
+ghost use Rattle.std.specs.Prelude.{◌≡◌, ◌-◌, ◌<◌, IfErr, None, OnErr, OnOk};
 ghost use Rattle.pool_law.specs.Limits.{cached_classes};
 ghost use Rattle.seat_work.specs.Changes.{no_change};
 ghost use Rattle.buffer_pool.specs.Threads.{HasChanged, IsSettled};
@@ -24,7 +24,7 @@ impl<B: PoolName> PoolThread<B> {
             (AreEmpty pool.now cached_classes self.old.seat self.new.seat) }
         ensures settled { OnOk result (IsSettled self.new) }
         ensures changed { HasChanged (self.old.account.turns - self.new.account.turns) no_change
-            self.old self.new }
+            None self.old self.new }
         ensures moves { self.new.account.moves ≡ self.old.account.moves }
         ensures spent { OnErr result (self.new.account.turns < 2) }
     {
@@ -38,7 +38,7 @@ impl<B: PoolName> PoolThread<B> {
             (AreEmpty pool.now cached_classes self.old.seat self.new.seat) }
         ensures settled { OnOk result (IsSettled self.new) }
         ensures changed { HasChanged (self.old.account.turns - self.new.account.turns) no_change
-            self.old self.new }
+            None self.old self.new }
         ensures moves { self.new.account.moves ≡ self.old.account.moves }
         ensures cause { IfErr result (MayStop pool.now self.old self.new) }
     {

@@ -2,13 +2,15 @@
 //! makes one step, and did nothing where another thread was there; the others make it until it is
 //! done.
 
-ghost use Rattle.std.specs.Prelude.{◌≡◌, ℕ, ◌+◌, ◌<◌, ◌≤◌, List, length, IfErr, IfOk, MatchBool};
+ghost use Rattle.std.specs.Prelude.{◌≡◌, ℕ, ◌+◌, ◌<◌, ◌≤◌, List, length, IfErr, IfOk, MatchBool, None, Some};
 ghost use Rattle.std.specs.Fn.{FnOnceReturnsAt};
 ghost use Rattle.pool_law.specs.declared.note.Did.{Did};
 ghost use Rattle.pool_law.specs.declared.note.Object.TheVariants.{Root};
+ghost use Rattle.pool_law.specs.Roots.{bytes_at};
 ghost use Rattle.shared_pool.specs.RootNotes.{access};
 ghost use Rattle.shared_pool.specs.Seats.{IsNoted};
 ghost use Rattle.seat_work.specs.Changes.{no_change};
+ghost use Rattle.buffer_pool.specs.Alone.{laid_in, AreLaid, IsAlone, LaysOver};
 ghost use Rattle.buffer_pool.specs.Counting.{counted, known};
 ghost use Rattle.buffer_pool.specs.Threads.{Does, IsThread};
 ghost use Rattle.buffer_pool.specs.Tries.{HasAccessed, StaysOut};
@@ -32,7 +34,8 @@ pub(crate) fn try_set(
     requires turns { 1 ≤ member.old.account.turns }
     requires range { offset + length bytes.now ≤ known member.old.account.counts root }
     ensures { MatchBool result
-        (HasAccessed pool.now root (Did.Set offset bytes.now) member.old member.new)
+        (HasAccessed pool.now root (Did.Set offset bytes.now) (Some root) member.old member.new
+        × LaysOver root offset bytes.now member.old member.new)
         (StaysOut pool.now root member.old member.new) }
 {
     match pool.write(&mut member.seat, root, offset, bytes, false) {
@@ -58,7 +61,8 @@ pub(crate) fn wait_to_set<W: Wait>(
     requires counts { 0 < counted member.old.account.counts root }
     requires turns { 1 ≤ member.old.account.turns }
     requires range { offset + length bytes.now ≤ known member.old.account.counts root }
-    ensures does { Does pool.now 1 no_change member.old member.new }
+    ensures does { Does pool.now 1 no_change (Some root) member.old member.new }
+    ensures laid { LaysOver root offset bytes.now member.old member.new }
     ensures moves { member.new.account.moves ≡ member.old.account.moves }
     ensures noted { (number : ℕ) × IsNoted pool.now member.old.seat member.new.seat
         (Root root.place) number (access root (Did.Set offset bytes.now)) }
@@ -85,7 +89,8 @@ pub(crate) fn try_get(
     requires turns { 1 ≤ member.old.account.turns }
     requires range { offset + length out.old ≤ known member.old.account.counts root }
     ensures tried { MatchBool result
-        (HasAccessed pool.now root (Did.Get offset out.new) member.old member.new)
+        (HasAccessed pool.now root (Did.Get offset out.new) None member.old member.new
+        × AreLaid member.old root offset out.new)
         (StaysOut pool.now root member.old member.new × (out.new ≡ out.old)) }
     ensures len { length out.new ≡ length out.old }
 {
@@ -112,7 +117,8 @@ pub(crate) fn wait_to_get<W: Wait>(
     requires counts { 0 < counted member.old.account.counts root }
     requires turns { 1 ≤ member.old.account.turns }
     requires range { offset + length out.old ≤ known member.old.account.counts root }
-    ensures does { Does pool.now 1 no_change member.old member.new }
+    ensures does { Does pool.now 1 no_change None member.old member.new }
+    ensures own { AreLaid member.old root offset out.new }
     ensures moves { member.new.account.moves ≡ member.old.account.moves }
     ensures len { length out.new ≡ length out.old }
     ensures noted { (number : ℕ) × IsNoted pool.now member.old.seat member.new.seat
@@ -144,7 +150,9 @@ pub(crate) fn try_with_bytes<R, F: FnOnce(&[u8]) -> R>(
     requires callable { F.IsAlwaysCallable f }
     ensures shown { IfOk result (λ answer. (bytes : List ℕ) × (length bytes ≡ len)
         × FnOnceReturnsAt F.FnOnce f bytes answer
-        × HasAccessed pool.now root (Did.Get offset bytes) member.old member.new) }
+        × HasAccessed pool.now root (Did.Get offset bytes) None member.old member.new) }
+    ensures own { IfOk result (λ answer. IsAlone member.old root →
+        FnOnceReturnsAt F.FnOnce f (bytes_at (laid_in member.old root) offset len) answer) }
     ensures back { IfErr result (λ back. (back ≡ f)
         × StaysOut pool.now root member.old member.new) }
 {
@@ -173,7 +181,9 @@ pub(crate) fn with_bytes<W: Wait, R, F: FnOnce(&[u8]) -> R>(
     requires turns { 1 ≤ member.old.account.turns }
     requires range { offset + len ≤ known member.old.account.counts root }
     requires callable { F.IsAlwaysCallable f }
-    ensures does { Does pool.now 1 no_change member.old member.new }
+    ensures does { Does pool.now 1 no_change None member.old member.new }
+    ensures own { IsAlone member.old root →
+        FnOnceReturnsAt F.FnOnce f (bytes_at (laid_in member.old root) offset len) result }
     ensures moves { member.new.account.moves ≡ member.old.account.moves }
     ensures shown { (bytes : List ℕ) × (number : ℕ) × (length bytes ≡ len)
         × FnOnceReturnsAt F.FnOnce f bytes result
@@ -196,7 +206,7 @@ pub(crate) fn try_touch(pool: &SharedPool, member: &mut Member, root: RootId) ->
     requires counts { 0 < counted member.old.account.counts root }
     requires turns { 1 ≤ member.old.account.turns }
     ensures { MatchBool result
-        (HasAccessed pool.now root Did.Touch member.old member.new)
+        (HasAccessed pool.now root Did.Touch None member.old member.new)
         (StaysOut pool.now root member.old member.new) }
 {
     match pool.touch(&mut member.seat, root) {
@@ -213,7 +223,7 @@ pub(crate) fn touch<W: Wait>(rt: &W, pool: &SharedPool, member: &mut Member, roo
     requires thread { IsThread pool.now member.old }
     requires counts { 0 < counted member.old.account.counts root }
     requires turns { 1 ≤ member.old.account.turns }
-    ensures does { Does pool.now 1 no_change member.old member.new }
+    ensures does { Does pool.now 1 no_change None member.old member.new }
     ensures moves { member.new.account.moves ≡ member.old.account.moves }
     ensures noted { (number : ℕ) × IsNoted pool.now member.old.seat member.new.seat
         (Root root.place) number (access root Did.Touch) }

@@ -1,14 +1,14 @@
 //! How a thread allocates.
 
-ghost use Rattle.std.specs.Prelude.{◌≡◌, ◌<◌, ◌≤◌, Some, IfOk, IfErr};
+ghost use Rattle.std.specs.Prelude.{◌≡◌, ◌<◌, ◌≤◌, None, Some, IfOk, IfErr};
 ghost use Rattle.size_classes.specs.Sizes.{class_of};
 ghost use Rattle.pool_law.specs.Limits.{geometry_of};
-ghost use Rattle.seat_work.specs.Answers.{allocated, IsWorn};
+ghost use Rattle.seat_work.specs.Answers.{allocated};
 ghost use Rattle.seat_work.specs.Works.{HasBorn};
 ghost use Rattle.buffer_pool.specs.Counting.{counted};
 ghost use Rattle.seat_tries.specs.Allocations as tries;
-ghost use Rattle.buffer_pool.specs.Answers.{MayBeWorn};
-ghost use Rattle.buffer_pool.specs.Attempts.{HasSeatCause};
+ghost use Rattle.buffer_pool.specs.Answers.{as_alloc, HasCause};
+ghost use Rattle.buffer_pool.specs.Attempts.{as_try, HasTryCause};
 ghost use Rattle.buffer_pool.specs.Threads.{Does, IsSettled, IsThread};
 
 use crate::member::Member;
@@ -27,42 +27,20 @@ pub(crate) fn allocate<W: Wait>(
     member: &mut Member,
     size: u32,
     class: u32,
-    watch: Option<Watch>,
 ) -> Result<RootId, AllocNo>
     requires thread { IsThread pool.now member.old }
     requires turns { 6 ≤ member.old.account.turns }
     requires class { class_of (geometry_of pool.now.table.layout.shape) size ≡ Some class }
     ensures root { IfOk result (λ root. root.capacity ≡ size) }
     ensures counts { IfOk result (λ root. 0 < counted member.new.account.counts root) }
-    ensures does { Does pool.now 6 (allocated result) member.old member.new }
+    ensures does { Does pool.now 6 (allocated result) None member.old member.new }
     ensures moves { member.new.account.moves ≡ member.old.account.moves }
     ensures born { IfOk result (λ root. HasBorn pool.now root member.old.seat member.new.seat) }
-    ensures worn { IfErr result (MayBeWorn pool.now member.old.seat member.new.seat) }
+    ensures cause { IfErr result (λ no.
+        HasCause pool.now member.old member.new (as_alloc no)) }
 {
     settle(rt, pool, member);
-    allocate_settled(rt, pool, member, size, class, watch)
-}
-
-// The same of a thread that has nothing to put away.
-fn allocate_settled<W: Wait>(
-    rt: &W,
-    pool: &SharedPool,
-    member: &mut Member,
-    size: u32,
-    class: u32,
-    watch: Option<Watch>,
-) -> Result<RootId, AllocNo>
-    requires thread { IsThread pool.now member.old }
-    requires settled { IsSettled member.old }
-    requires turns { 6 ≤ member.old.account.turns }
-    requires class { class_of (geometry_of pool.now.table.layout.shape) size ≡ Some class }
-    ensures root { IfOk result (λ root. root.capacity ≡ size) }
-    ensures counts { IfOk result (λ root. 0 < counted member.new.account.counts root) }
-    ensures does { Does pool.now 6 (allocated result) member.old member.new }
-    ensures moves { member.new.account.moves ≡ member.old.account.moves }
-    ensures born { IfOk result (λ root. HasBorn pool.now root member.old.seat member.new.seat) }
-    ensures worn { IfErr result (IsWorn pool.now member.old.seat member.new.seat) }
-{
+    let watch = member.watcher.next();
     member.account.turns -= 6;
     match seat_work::allocate(rt, pool, &mut member.seat, size, class, watch) {
         Ok(root) => {
@@ -86,10 +64,11 @@ pub(crate) fn try_allocate(
     requires class { class_of (geometry_of pool.now.table.layout.shape) size ≡ Some class }
     ensures root { IfOk result (λ root. root.capacity ≡ size) }
     ensures counts { IfOk result (λ root. 0 < counted member.new.account.counts root) }
-    ensures does { Does pool.now 6 (tries.allocated result) member.old member.new }
+    ensures does { Does pool.now 6 (tries.allocated result) None member.old member.new }
     ensures moves { member.new.account.moves ≡ member.old.account.moves }
     ensures born { IfOk result (λ root. HasBorn pool.now root member.old.seat member.new.seat) }
-    ensures cause { IfErr result (HasSeatCause pool.now member.old.seat member.new.seat) }
+    ensures cause { IfErr result (λ no.
+        HasTryCause pool.now member.old member.new (as_try no)) }
 {
     if try_settle(pool, member) {
         return try_allocate_settled(pool, member, size, class, watch);
@@ -112,7 +91,7 @@ fn try_allocate_settled(
     requires class { class_of (geometry_of pool.now.table.layout.shape) size ≡ Some class }
     ensures root { IfOk result (λ root. root.capacity ≡ size) }
     ensures counts { IfOk result (λ root. 0 < counted member.new.account.counts root) }
-    ensures does { Does pool.now 6 (tries.allocated result) member.old member.new }
+    ensures does { Does pool.now 6 (tries.allocated result) None member.old member.new }
     ensures moves { member.new.account.moves ≡ member.old.account.moves }
     ensures born { IfOk result (λ root. HasBorn pool.now root member.old.seat member.new.seat) }
     ensures cause { IfErr result (tries.HasCause pool.now member.old.seat member.new.seat) }

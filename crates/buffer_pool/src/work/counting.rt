@@ -1,6 +1,6 @@
 //! How a thread counts a root once more and once less, and how often all threads count it.
 
-ghost use Rattle.std.specs.Prelude.{◌≡◌, ◌+◌, ◌<◌, ◌≤◌, IfSome, IfNone};
+ghost use Rattle.std.specs.Prelude.{◌≡◌, ◌+◌, ◌<◌, ◌≤◌, IfSome, IfNone, None};
 ghost use Rattle.pool_law.specs.declared.note.RefDid.TheVariants.{Look};
 ghost use Rattle.pool_table.specs.Counts.{with_ref};
 ghost use Rattle.shared_pool.specs.SeatViews.{HasView, view_of};
@@ -25,7 +25,7 @@ pub(crate) fn retain(pool: &SharedPool, member: &mut Member, root: RootId)
     requires counts { 0 < counted member.old.account.counts root }
     requires turns { 1 ≤ member.old.account.turns }
     requires moves { 1 ≤ member.old.account.moves }
-    ensures does { Does pool.now 1 (once_more root) member.old member.new }
+    ensures does { Does pool.now 1 (once_more root) None member.old member.new }
     ensures moves { member.new.account.moves + 1 ≡ member.old.account.moves }
 {
     member.account.turns -= 1;
@@ -40,22 +40,10 @@ pub(crate) fn release<W: Wait>(rt: &W, pool: &SharedPool, member: &mut Member, r
     requires thread { IsThread pool.now member.old }
     requires counts { 0 < counted member.old.account.counts root }
     requires turns { 4 ≤ member.old.account.turns }
-    ensures does { Does pool.now 4 (once_less root result) member.old member.new }
+    ensures does { Does pool.now 4 (once_less root result) None member.old member.new }
     ensures moves { member.new.account.moves ≡ moves_after result member.old.account.moves }
 {
     settle(rt, pool, member);
-    release_settled(rt, pool, member, root)
-}
-
-// The same of a thread that has nothing to put away.
-fn release_settled<W: Wait>(rt: &W, pool: &SharedPool, member: &mut Member, root: RootId) -> bool
-    requires thread { IsThread pool.now member.old }
-    requires settled { IsSettled member.old }
-    requires counts { 0 < counted member.old.account.counts root }
-    requires turns { 4 ≤ member.old.account.turns }
-    ensures does { Does pool.now 4 (once_less root result) member.old member.new }
-    ensures moves { member.new.account.moves ≡ moves_after result member.old.account.moves }
-{
     member.account.turns -= 4;
     let last = seat_work::release(rt, pool, &mut member.seat, root);
     member.account.counts.take(root);
@@ -70,7 +58,7 @@ pub(crate) fn try_release(pool: &SharedPool, member: &mut Member, root: RootId) 
     requires counts { 0 < counted member.old.account.counts root }
     requires turns { 4 ≤ member.old.account.turns }
     ensures does { IfSome result (λ last.
-        Does pool.now 4 (once_less root last) member.old member.new) }
+        Does pool.now 4 (once_less root last) None member.old member.new) }
     ensures moves { IfSome result (λ last.
         member.new.account.moves ≡ moves_after last member.old.account.moves) }
     ensures settles { IfNone result (Settles pool.now member.old member.new) }
@@ -89,7 +77,7 @@ fn try_release_settled(pool: &SharedPool, member: &mut Member, root: RootId) -> 
     requires settled { IsSettled member.old }
     requires counts { 0 < counted member.old.account.counts root }
     requires turns { 4 ≤ member.old.account.turns }
-    ensures does { Does pool.now 4 (once_less root result) member.old member.new }
+    ensures does { Does pool.now 4 (once_less root result) None member.old member.new }
     ensures moves { member.new.account.moves ≡ moves_after result member.old.account.moves }
 {
     member.account.turns -= 4;
@@ -115,7 +103,7 @@ fn moves_after(last: bool, moves: u32) -> u32
 pub(crate) fn look(pool: &SharedPool, member: &mut Member, root: RootId) -> u32
     requires thread { IsThread pool.now member.old }
     requires counts { 0 < counted member.old.account.counts root }
-    ensures does { Does pool.now 0 no_change member.old member.new }
+    ensures does { Does pool.now 0 no_change None member.old member.new }
     ensures account { member.new.account ≡ member.old.account }
     ensures looked { let v = view_of member.old.seat in
         HasView member.new.seat (with_ref v root (Look result) v.moves) }

@@ -5,6 +5,7 @@ ghost use Rattle.size_classes.specs.Sizes.{class_of};
 ghost use Rattle.pool_law.specs.Limits.{geometry_of};
 ghost use Rattle.pool_law.specs.Views.{most_capacity};
 ghost use Rattle.seat_work.specs.Regrowths.{grown, IsTold};
+ghost use Rattle.buffer_pool.specs.Alone.{GrowsAlone};
 ghost use Rattle.buffer_pool.specs.Counting.{counted, known};
 ghost use Rattle.buffer_pool.specs.Growths.{asked, MayRefuseAsked};
 ghost use Rattle.buffer_pool.specs.Threads.{Does, IsSettled, IsThread};
@@ -31,7 +32,8 @@ pub(crate) fn grow<W: Wait>(
     requires counts { 0 < counted member.old.account.counts root }
     requires turns { 6 ≤ member.old.account.turns }
     requires class { class_of (geometry_of pool.now.table.layout.shape) size ≡ Some class }
-    ensures does { Does pool.now 6 (grown result) member.old member.new }
+    ensures does { Does pool.now 6 (grown result) (Some root) member.old member.new }
+    ensures alone { GrowsAlone root member.old member.new }
     ensures moves { member.new.account.moves ≡ member.old.account.moves }
     ensures counts { 0 < counted member.new.account.counts root }
     ensures enough { IfOk result (λ capacity. (size ≤ capacity) × (capacity ≤ most_capacity)) }
@@ -58,7 +60,8 @@ fn grow_settled<W: Wait>(
     requires counts { 0 < counted member.old.account.counts root }
     requires turns { 6 ≤ member.old.account.turns }
     requires class { class_of (geometry_of pool.now.table.layout.shape) size ≡ Some class }
-    ensures does { Does pool.now 6 (grown result) member.old member.new }
+    ensures does { Does pool.now 6 (grown result) (Some root) member.old member.new }
+    ensures alone { GrowsAlone root member.old member.new }
     ensures moves { member.new.account.moves ≡ member.old.account.moves }
     ensures counts { 0 < counted member.new.account.counts root }
     ensures enough { IfOk result (λ capacity. (size ≤ capacity) × (capacity ≤ most_capacity)) }
@@ -89,7 +92,8 @@ pub(crate) fn try_grow(
     requires counts { 0 < counted member.old.account.counts root }
     requires turns { 6 ≤ member.old.account.turns }
     requires class { class_of (geometry_of pool.now.table.layout.shape) size ≡ Some class }
-    ensures does { Does pool.now 6 (asked result) member.old member.new }
+    ensures does { Does pool.now 6 (asked result) (Some root) member.old member.new }
+    ensures alone { GrowsAlone root member.old member.new }
     ensures moves { member.new.account.moves ≡ member.old.account.moves }
     ensures counts { 0 < counted member.new.account.counts root }
     ensures enough { IfOk result (λ capacity. (size ≤ capacity) × (capacity ≤ most_capacity)) }
@@ -119,7 +123,8 @@ fn try_grow_settled(
     requires counts { 0 < counted member.old.account.counts root }
     requires turns { 6 ≤ member.old.account.turns }
     requires class { class_of (geometry_of pool.now.table.layout.shape) size ≡ Some class }
-    ensures does { Does pool.now 6 (asked result) member.old member.new }
+    ensures does { Does pool.now 6 (asked result) (Some root) member.old member.new }
+    ensures alone { GrowsAlone root member.old member.new }
     ensures moves { member.new.account.moves ≡ member.old.account.moves }
     ensures counts { 0 < counted member.new.account.counts root }
     ensures enough { IfOk result (λ capacity. (size ≤ capacity) × (capacity ≤ most_capacity)) }

@@ -1,6 +1,6 @@
 //! How a thread parts with a root, by a letter, and accepts one.
 
-ghost use Rattle.std.specs.Prelude.{◌≡◌, ◌<◌, ◌≤◌, [], ◌∷◌, Some};
+ghost use Rattle.std.specs.Prelude.{◌≡◌, ◌<◌, ◌≤◌, [], ◌∷◌, None, Some};
 ghost use Rattle.pool_law.specs.Views.{IsView, LiesIn};
 ghost use Rattle.pool_table.specs.Letters.{next_letter};
 ghost use Rattle.shared_pool.specs.SeatViews.{view_of};
@@ -23,7 +23,7 @@ pub(crate) fn part(pool: &SharedPool, member: &mut Member, to: u32, at: ViewData
     requires reaches { LiesIn (known member.old.account.counts at.root) at }
     requires turns { 1 ≤ member.old.account.turns }
     requires view { IsView at }
-    ensures does { Does pool.now 1 (record no_change { gone = at.root ∷ [] })
+    ensures does { Does pool.now 1 (record no_change { gone = at.root ∷ [] }) (Some at.root)
         member.old member.new }
     ensures moves { member.new.account.moves ≡ member.old.account.moves }
     ensures parcel { IsParcelOf pool.now result }
@@ -32,7 +32,7 @@ pub(crate) fn part(pool: &SharedPool, member: &mut Member, to: u32, at: ViewData
 {
     member.account.turns -= 1;
     let posted = pool.send(&mut member.seat, to, Parcel { view: Some(at) });
-    member.account.counts.take(at.root);
+    member.account.counts.part(at.root);
     posted
 }
 
@@ -42,7 +42,7 @@ pub(crate) fn accept(pool: &SharedPool, member: &mut Member, posted: Posted) -> 
     requires own { HasOwnChannels pool.now }
     requires parcel { IsParcelOf pool.now posted }
     requires may { MayAccept member.old.account posted.letter }
-    ensures does { Does pool.now 1 (once_more result.root) member.old member.new }
+    ensures does { Does pool.now 1 (once_more result.root) None member.old member.new }
     ensures moves { member.new.account.moves ≡ member.old.account.moves }
     ensures view { IsView result }
     ensures at { posted.letter.parcel.view ≡ Some result }

@@ -86,6 +86,9 @@ pub(crate) fn try_settle(pool: &SharedPool, member: &mut Member) -> bool
     ensures settled { IsTrue result ↔ IsSettled member.new }
     ensures cause { result ≡ false → MeetsOther pool.now member.old.seat member.new.seat }
 {
+    if is_nothing(&member.pending) {
+        return true;
+    }
     let pending = replace(&mut member.pending, nothing());
     let left = put_away(pool, &mut member.seat, pending);
     let settled = is_nothing(&left);

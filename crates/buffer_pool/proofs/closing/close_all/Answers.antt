@@ -12,7 +12,7 @@ use Rattle.buffer_pool.proofs.Ended.{all_done, members_same, parts_same, seat_of
 use Rattle.buffer_pool.proofs.closing.close_all.Goals as goal
 
 pub close-requires : goal.close-requires
-close-requires g c =
+close-requires c =
     let all : AreAll c.args.shared c.args.members.items = first_of (search rules, grind (arith, common_steps)) in
     let settled : All IsSettled c.args.members.items = first_of (search rules, grind (arith, common_steps)) in
     record {
@@ -22,20 +22,20 @@ close-requires g c =
     }
 
 pub returns-in-Ok-clause-chunks : goal.returns-in-Ok-clause-chunks
-returns-in-Ok-clause-chunks g c =
+returns-in-Ok-clause-chunks c =
     let shape = c.args.shared.table.layout.shape in
     let parts : parts_in c.parted-seats.result.0.items ≡ parts_of c.args.members.items =
     ap parts_in c.parted-seats.ensures.seats ∙ parts_same c.args.members.items in
     c.in-Ok.ensures.chunks ∙ ap (λ ps. ends_from shape (logs_in ps) (below shape.arenas)) parts
 
 pub returns-in-Ok-clause-leaks : goal.returns-in-Ok-clause-leaks
-returns-in-Ok-clause-leaks g c =
+returns-in-Ok-clause-leaks c =
     let parts : parts_in c.parted-seats.result.0.items ≡ parts_of c.args.members.items =
     ap parts_in c.parted-seats.ensures.seats ∙ parts_same c.args.members.items in
     subst (λ ps. AreLiveRoots ps c.in-Ok.end.live) parts c.in-Ok.ensures.live
 
 pub returns-in-Err-clause-back : goal.returns-in-Err-clause-back
-returns-in-Err-clause-back g c =
+returns-in-Err-clause-back c =
     let back = c.in-Err.ensures.err in let parted = c.parted-seats.ensures in let joined = c.joined-members.ensures in
     let seats : map seat_of c.joined-members.result.items ≡ map seat_of c.args.members.items =
     joined.seats ∙ back.1 ∙ parted.seats in

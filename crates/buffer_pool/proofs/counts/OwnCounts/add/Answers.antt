@@ -1,14 +1,15 @@
 use Rattle.std.proofs.Common.{◌≡◌, ◌+◌, ◌<◌, true, false, length, refl, sym, ap, ◌∙◌, subst, arith, rules, Some}
-use Rattle.std.specs.Prelude.{slice_get}
+use Rattle.std.specs.Prelude.{slice_get, IsTrue}
 use Rattle.std.proofs.lemmas.Option.{slice_get_read}
 use Rattle.std.proofs.lemmas.Grind.{common_steps}
 use Rattle.pool_law.specs.declared.id.RootId.{RootId}
 use Rattle.pool_law.specs.Same.{same_root}
 use Rattle.seat_work.specs.Changes.{one_for}
-use Rattle.buffer_pool.specs.Counting.{counted, told}
+use Rattle.buffer_pool.specs.Counting.{counted, is_alone, told}
 use Rattle.buffer_pool.specs.declared.counts.Counted.{Counted}
 use Rattle.buffer_pool.specs.contracts.counts.OwnCounts.{the_view}
 use Rattle.buffer_pool.proofs.CountLaws.{added_again, added_first}
+use Rattle.buffer_pool.proofs.AloneLaws.{alone_less, alone_same}
 use Rattle.buffer_pool.proofs.ToldLaws.{least_by, same_least, told_kept, told_less, told_same}
 use Rattle.buffer_pool.proofs.counts.OwnCounts.add.Goals as goal
 use Rattle.buffer_pool.proofs.counts.OwnCounts.add.Goals.{then-eq, else-eq}
@@ -48,11 +49,11 @@ returns-clause-tells c =
       | then-eq w ↦
           λ other. least_by _ _ _ _ (ap (λ x. told (the_view x) other) w.self-inside-is)
           (same_least _ _ (told_same cs root old at
-          (record { root = old.root; count = old.count + 1; told = old.told }) refl refl other))
+          (record old { count = old.count + 1 }) refl refl other))
           (ap (λ xs. told xs other) c.self.view_is)
       | else-eq w ↦
           λ other. least_by _ _ _ _ (ap (λ x. told (the_view x) other) w.self-inside-is)
-          (told_less cs root old at (record { root = root; count = 1; told = 0 }) refl other)
+          (told_less cs root old at (record { root = root; count = 1; told = 0; alone = false }) refl other)
           (ap (λ xs. told xs other) c.self.view_is)
     ]
 
@@ -67,13 +68,31 @@ returns-clause-keeps c =
       | then-eq w ↦
           λ other some. least_by _ _ _ _ (sym (ap (λ xs. told xs other) c.self.view_is))
           (same_least _ _ (sym (told_same cs root old at
-          (record { root = old.root; count = old.count + 1; told = old.told }) refl refl other)))
+          (record old { count = old.count + 1 }) refl refl other)))
           (sym (ap (λ x. told (the_view x) other) w.self-inside-is))
       | else-eq w ↦
           let tests = w.if-eq.false in let means = c.eq.ensures in
           let differs : same_root old.root root ≡ false = first_of (search rules, grind (arith, common_steps)) in
           λ other some. least_by _ _ _ _ (sym (ap (λ xs. told xs other) c.self.view_is))
-          (told_kept cs root old at (record { root = root; count = 1; told = 0 }) refl differs other
+          (told_kept cs root old at (record { root = root; count = 1; told = 0; alone = false }) refl differs other
           (subst (λ x. 0 < counted (the_view x) other) w.self-inside-is some))
           (sym (ap (λ x. told (the_view x) other) w.self-inside-is))
+    ]
+
+pub returns-clause-alone : goal.returns-clause-alone
+returns-clause-alone c =
+    let cs = c.self.inside.by_place.items in let root = c.args.root in let old : Counted =
+    c.index_mut-at_place.result.now in
+    let lt : root.place < length cs = subst (λ xs. root.place < length xs) (sym c.self.view_is) c.requires.place in
+    let at : slice_get cs root.place ≡ Some old = slice_get_read cs (length cs) root.place old refl lt
+    c.index_mut-at_place.ensures.value in
+    elim c.if-eq.branch [
+      | then-eq w ↦
+          λ other is. subst (λ xs. IsTrue (is_alone xs other)) c.self.view_is
+          (sym (alone_same cs root old at (record old { count = old.count + 1 }) refl refl other)
+          ∙ subst (λ x. IsTrue (is_alone (the_view x) other)) w.self-inside-is is)
+      | else-eq w ↦
+          λ other is. subst (λ xs. IsTrue (is_alone xs other)) c.self.view_is
+          (alone_less cs root old at (record { root = root; count = 1; told = 0; alone = false }) refl other
+          (subst (λ x. IsTrue (is_alone (the_view x) other)) w.self-inside-is is))
     ]

@@ -1,4 +1,4 @@
-use Rattle.std.proofs.Common.{◌≡◌, length}
+use Rattle.std.proofs.Common.{◌≡◌, false, length}
 use Rattle.std.specs.Prelude.{All}
 use Rattle.buffer_pool.proofs.counts.OwnCounts.new.Given as goal
 
@@ -8,4 +8,5 @@ invariant-loop-place l =
       places : length l.by_place.items ≡ l.place;
       none : All (λ c. c.count ≡ 0) l.by_place.items;
       untold : All (λ c. c.told ≡ 0) l.by_place.items;
+      alone : All (λ c. c.alone ≡ false) l.by_place.items;
     }

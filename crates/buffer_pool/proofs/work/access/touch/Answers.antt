@@ -1,4 +1,4 @@
-use Rattle.std.proofs.Common.{◌<◌, ◌≤◌, Bool, sym, subst}
+use Rattle.std.proofs.Common.{◌<◌, ◌≤◌, Bool, None, sym, subst}
 use Rattle.std.specs.Prelude.{MatchBool}
 use Rattle.pool_law.specs.declared.note.Did.{Did}
 use Rattle.buffer_pool.specs.declared.account.Account.{Account}
@@ -21,9 +21,9 @@ pub returns-then-try_touch : goal.returns-then-try_touch
 returns-then-try_touch g c =
     let pool = c.args.pool.now in let root = c.args.root in let mid = c.loop.member in
     let new = c.try_touch.new.member in let did = Did.Touch in
-    let it = subst (λ (b : Bool). MatchBool b (HasAccessed pool root did mid new) (StaysOut pool root mid new))
+    let it = subst (λ (b : Bool). MatchBool b (HasAccessed pool root did None mid new) (StaysOut pool root mid new))
     c.if-try_touch.true c.try_touch.ensures in
-    let all = accessed_after pool root c.args.member.now mid new did c.loop.invariant it in
+    let all = accessed_after pool root c.args.member.now mid new did None c.loop.invariant it in
     record { does = all.does; moves = all.moves; noted = (all.number, all.noted) }
 
 pub loop-init : goal.loop-init
@@ -34,5 +34,5 @@ loop-preserved g c =
     let pool = c.args.pool.now in let root = c.args.root in let mid = c.loop.member in
     let new = c.try_touch.new.member in let did = Did.Touch in
     waits_on pool root c.args.member.now mid new c.loop.invariant
-    (subst (λ (b : Bool). MatchBool b (HasAccessed pool root did mid new) (StaysOut pool root mid new))
+    (subst (λ (b : Bool). MatchBool b (HasAccessed pool root did None mid new) (StaysOut pool root mid new))
     c.if-try_touch.false c.try_touch.ensures)

@@ -1,7 +1,8 @@
-use Rattle.std.proofs.Common.{◌+◌, length}
+use Rattle.std.proofs.Common.{◌+◌, length, None}
 use Rattle.pool_law.specs.declared.note.Did.{Did}
 use Rattle.seat_tries.proofs.Carrying.{get_access}
 use Rattle.buffer_pool.proofs.Accessing.{has_accessed, stays_out}
+use Rattle.buffer_pool.proofs.Alone.{stays_got}
 use Rattle.buffer_pool.proofs.Keeping.{has_count, knows_too}
 use Rattle.buffer_pool.proofs.work.access.try_get.Goals as goal
 
@@ -17,9 +18,13 @@ read-requires-clause-counts c =
 pub returns-in-Did-clause-tried : goal.returns-in-Did-clause-tried
 returns-in-Did-clause-tried c =
     let did = c.in-Did in let a = c.args in let old = a.member.now in let out = c.read.new.out in
-    has_accessed a.pool.now old c.requires.thread c.requires.turns a.root c.read.new.seat did._number
-    (Did.Get a.offset out) did.ensures.seat
-    (get_access a.offset out) did.ensures.did
+    let pool = a.pool.now in let new = c.read.new.seat in let number = did._number in let noted = did.ensures.did in (
+      has_accessed pool old c.requires.thread c.requires.turns a.root new number (Did.Get a.offset out)
+          did.ensures.seat
+          (get_access a.offset out) noted None
+          (stays_got pool old.seat new a.root number a.offset out noted),
+      did.ensures.lone,
+    )
 
 pub returns-in-Held-clause-tried : goal.returns-in-Held-clause-tried
 returns-in-Held-clause-tried c =

@@ -1,7 +1,8 @@
-use Rattle.std.proofs.Common.{◌+◌, length}
+use Rattle.std.proofs.Common.{◌+◌, length, Some}
 use Rattle.pool_law.specs.declared.note.Did.{Did}
 use Rattle.seat_tries.proofs.Carrying.{set_access}
-use Rattle.buffer_pool.proofs.Accessing.{has_accessed, stays_out}
+use Rattle.buffer_pool.proofs.Accessing.{after_turns, has_accessed, stays_out}
+use Rattle.buffer_pool.proofs.Alone.{lays_over, stays_set}
 use Rattle.buffer_pool.proofs.Keeping.{has_count, knows_too}
 use Rattle.buffer_pool.proofs.work.access.try_set.Goals as goal
 
@@ -16,10 +17,14 @@ write-requires-clause-counts c =
 
 pub returns-in-Did : goal.returns-in-Did
 returns-in-Did c =
-    let did = c.in-Did in let a = c.args in let old = a.member.now in
-    has_accessed a.pool.now old c.requires.thread c.requires.turns a.root c.write.new.seat did._number
-    (Did.Set a.offset a.bytes.now) did.ensures.seat
-    (set_access a.offset a.bytes.now) did.ensures.did
+    let did = c.in-Did in let a = c.args in let old = a.member.now in let new = c.write.new.seat in
+    let pool = a.pool.now in let number = did._number in let bytes = a.bytes.now in let noted = did.ensures.did in (
+      has_accessed pool old c.requires.thread c.requires.turns a.root new number (Did.Set a.offset bytes)
+          did.ensures.seat
+          (set_access a.offset bytes) noted (Some a.root)
+          (stays_set pool old.seat new a.root number a.offset bytes noted),
+      lays_over pool old (after_turns 1 old new) a.root number a.offset bytes noted,
+    )
 
 pub returns-in-Held : goal.returns-in-Held
 returns-in-Held c =

@@ -1,6 +1,8 @@
+use Rattle.std.proofs.Common.{None}
 use Rattle.pool_law.specs.declared.note.Did.{Did}
 use Rattle.seat_tries.proofs.Carrying.{touch_access}
 use Rattle.buffer_pool.proofs.Accessing.{has_accessed, stays_out}
+use Rattle.buffer_pool.proofs.Alone.{stays_touched}
 use Rattle.buffer_pool.proofs.Keeping.{has_count}
 use Rattle.buffer_pool.proofs.work.access.try_touch.Goals as goal
 
@@ -13,7 +15,8 @@ returns-in-Did c =
     let did = c.in-Did in let a = c.args in let old = a.member.now in
     has_accessed a.pool.now old c.requires.thread c.requires.turns a.root c.touch.new.seat did._number
     Did.Touch did.ensures.seat
-    touch_access did.ensures.did
+    touch_access did.ensures.did None
+    (stays_touched a.pool.now old.seat c.touch.new.seat a.root did._number did.ensures.did)
 
 pub returns-in-Held : goal.returns-in-Held
 returns-in-Held c =

@@ -1,7 +1,8 @@
-use Rattle.std.proofs.Common.{◌+◌}
+use Rattle.std.proofs.Common.{◌+◌, None}
 use Rattle.pool_law.specs.declared.note.Did.{Did}
 use Rattle.seat_tries.proofs.Carrying.{get_access}
 use Rattle.buffer_pool.proofs.Accessing.{has_accessed, stays_out}
+use Rattle.buffer_pool.proofs.Alone.{stays_got}
 use Rattle.buffer_pool.proofs.Keeping.{has_count, knows_too}
 use Rattle.buffer_pool.proofs.work.access.try_with_bytes.Goals as goal
 
@@ -23,7 +24,8 @@ returns-in-Did-clause-shown g c =
       did.did.2,
       has_accessed a.pool.now old c.requires.thread c.requires.turns a.root c.with_bytes.new.seat number
           (Did.Get a.offset bytes) did.seat
-          (get_access a.offset bytes) did.did.3,
+          (get_access a.offset bytes) did.did.3 None
+          (stays_got a.pool.now old.seat c.with_bytes.new.seat a.root number a.offset bytes did.did.3),
     )
 
 pub returns-in-Held-clause-back : goal.returns-in-Held-clause-back
@@ -33,3 +35,6 @@ returns-in-Held-clause-back g c =
       stays_out c.args.pool.now c.args.root c.args.member.now c.with_bytes.new.seat c.in-Held._held
           c.requires.thread held.seat held.held.1,
     )
+
+pub returns-in-Did-clause-own : goal.returns-in-Did-clause-own
+returns-in-Did-clause-own g c = (c.in-Did.ensures {u = tt}).lone

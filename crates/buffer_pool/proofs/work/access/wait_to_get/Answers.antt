@@ -1,9 +1,11 @@
-use Rattle.std.proofs.Common.{◌≡◌, ℕ, ◌+◌, length, ◌<◌, ◌≤◌, Bool, refl, sym, subst, ◌∙◌}
+use Rattle.std.proofs.Common.{◌≡◌, ℕ, ◌+◌, length, ◌<◌, ◌≤◌, Bool, None, refl, sym, subst, ◌∙◌}
 use Rattle.std.specs.Prelude.{MatchBool}
 use Rattle.pool_law.specs.declared.note.Did.{Did}
 use Rattle.buffer_pool.specs.declared.account.Account.{Account}
+use Rattle.buffer_pool.specs.Alone.{AreLaid}
 use Rattle.buffer_pool.specs.Counting.{counted, known}
 use Rattle.buffer_pool.specs.Tries.{HasAccessed, StaysOut}
+use Rattle.buffer_pool.proofs.Alone.{own_after}
 use Rattle.buffer_pool.proofs.Accessing.{accessed_after, same_account, waits_first, waits_on}
 use Rattle.buffer_pool.proofs.work.access.wait_to_get.Goals as goal
 
@@ -28,11 +30,13 @@ pub returns-then-try_get : goal.returns-then-try_get
 returns-then-try_get g c =
     let pool = c.args.pool.now in let root = c.args.root in let mid = c.loop.member in
     let new = c.try_get.new.member in let out = c.try_get.new.out in let did = Did.Get c.args.offset out in
-    let it = subst (λ (b : Bool). MatchBool b (HasAccessed pool root did mid new)
+    let offset = c.args.offset in
+    let it = subst (λ (b : Bool). MatchBool b (HasAccessed pool root did None mid new × AreLaid mid root offset out)
     (StaysOut pool root mid new × (out ≡ c.loop.out))) c.if-try_get.true c.try_get.ensures.tried in
-    let all = accessed_after pool root c.args.member.now mid new did c.loop.invariant.0 it in
+    let all = accessed_after pool root c.args.member.now mid new did None c.loop.invariant.0 it.0 in
     record {
       does = all.does;
+      own = own_after c.args.member.now mid new c.loop.invariant.0.view root offset out it.1;
       moves = all.moves;
       len = c.try_get.ensures.len ∙ c.loop.invariant.1;
       noted = (all.number, all.noted);
@@ -45,7 +49,8 @@ pub loop-preserved : goal.loop-preserved
 loop-preserved g c =
     let pool = c.args.pool.now in let root = c.args.root in let mid = c.loop.member in
     let new = c.try_get.new.member in let out = c.try_get.new.out in let did = Did.Get c.args.offset out in
-    let busy = subst (λ (b : Bool). MatchBool b (HasAccessed pool root did mid new)
+    let offset = c.args.offset in
+    let busy = subst (λ (b : Bool). MatchBool b (HasAccessed pool root did None mid new × AreLaid mid root offset out)
     (StaysOut pool root mid new × (out ≡ c.loop.out))) c.if-try_get.false c.try_get.ensures.tried in (
       waits_on pool root c.args.member.now mid new c.loop.invariant.0 busy.0,
       c.try_get.ensures.len ∙ c.loop.invariant.1,

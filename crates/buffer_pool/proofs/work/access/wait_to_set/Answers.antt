@@ -1,9 +1,11 @@
-use Rattle.std.proofs.Common.{◌+◌, length, ◌<◌, ◌≤◌, Bool, sym, subst}
+use Rattle.std.proofs.Common.{◌+◌, length, ◌<◌, ◌≤◌, Bool, Some, sym, subst}
 use Rattle.std.specs.Prelude.{MatchBool}
 use Rattle.pool_law.specs.declared.note.Did.{Did}
 use Rattle.buffer_pool.specs.declared.account.Account.{Account}
+use Rattle.buffer_pool.specs.Alone.{LaysOver}
 use Rattle.buffer_pool.specs.Counting.{counted, known}
 use Rattle.buffer_pool.specs.Tries.{HasAccessed, StaysOut}
+use Rattle.buffer_pool.proofs.Alone.{laid_after}
 use Rattle.buffer_pool.proofs.Accessing.{accessed_after, same_account, waits_first, waits_on}
 use Rattle.buffer_pool.proofs.work.access.wait_to_set.Goals as goal
 
@@ -26,10 +28,17 @@ pub returns-then-try_set : goal.returns-then-try_set
 returns-then-try_set g c =
     let pool = c.args.pool.now in let root = c.args.root in let mid = c.loop.member in
     let new = c.try_set.new.member in let did = (Did.Set c.args.offset c.args.bytes.now) in
-    let it = subst (λ (b : Bool). MatchBool b (HasAccessed pool root did mid new) (StaysOut pool root mid new))
+    let offset = c.args.offset in let bytes = c.args.bytes.now in
+    let it = subst (λ (b : Bool). MatchBool b
+    (HasAccessed pool root did (Some root) mid new × LaysOver root offset bytes mid new) (StaysOut pool root mid new))
     c.if-try_set.true c.try_set.ensures in
-    let all = accessed_after pool root c.args.member.now mid new did c.loop.invariant it in
-    record { does = all.does; moves = all.moves; noted = (all.number, all.noted) }
+    let all = accessed_after pool root c.args.member.now mid new did (Some root) c.loop.invariant it.0 in
+    record {
+      does = all.does;
+      laid = laid_after c.args.member.now mid new c.loop.invariant.view root offset bytes it.1;
+      moves = all.moves;
+      noted = (all.number, all.noted);
+    }
 
 pub loop-init : goal.loop-init
 loop-init g c = waits_first c.args.pool.now c.args.member.now c.requires.thread
@@ -38,6 +47,8 @@ pub loop-preserved : goal.loop-preserved
 loop-preserved g c =
     let pool = c.args.pool.now in let root = c.args.root in let mid = c.loop.member in
     let new = c.try_set.new.member in let did = (Did.Set c.args.offset c.args.bytes.now) in
+    let offset = c.args.offset in let bytes = c.args.bytes.now in
     waits_on pool root c.args.member.now mid new c.loop.invariant
-    (subst (λ (b : Bool). MatchBool b (HasAccessed pool root did mid new) (StaysOut pool root mid new))
+    (subst (λ (b : Bool). MatchBool b
+    (HasAccessed pool root did (Some root) mid new × LaysOver root offset bytes mid new) (StaysOut pool root mid new))
     c.if-try_set.false c.try_set.ensures)

@@ -1,6 +1,10 @@
-use Rattle.std.proofs.Common.{◌+◌, ◌<◌, ◌≤◌, ◌∙◌, refl, sym, subst}
+use Rattle.std.proofs.Common.{◌+◌, ◌<◌, ◌≤◌, ◌∙◌, None, refl, sym, subst}
 use Rattle.std.specs.Fn.{FnOnceReturnsAt}
 use Rattle.pool_law.specs.declared.note.Did.{Did}
+use Rattle.pool_law.specs.Roots.{bytes_at}
+use Rattle.pool_table.specs.declared.views.SeatView.{SeatView}
+use Rattle.pool_table.specs.Lone.{own_bytes, IsLone}
+use Rattle.buffer_pool.specs.Alone.{laid_in}
 use Rattle.buffer_pool.specs.declared.account.Account.{Account}
 use Rattle.buffer_pool.specs.Counting.{counted, known}
 use Rattle.buffer_pool.proofs.Accessing.{accessed_after, same_account, waits_first, waits_on}
@@ -29,7 +33,8 @@ pub returns-in-Ok : goal.returns-in-Ok
 returns-in-Ok g c =
     let pool = c.args.pool.now in let root = c.args.root in let mid = c.loop.member in
     let new = c.try_with_bytes.new.member in let shown = (c.in-Ok.ensures {u = tt}).shown in
-    let all = accessed_after pool root c.args.member.now mid new (Did.Get c.args.offset shown.0)
+    let own = (c.in-Ok.ensures {u = tt}).own in
+    let all = accessed_after pool root c.args.member.now mid new (Did.Get c.args.offset shown.0) None
     c.loop.invariant.0 shown.3 in
     record {
       does = all.does;
@@ -41,6 +46,12 @@ returns-in-Ok g c =
         subst (λ f. FnOnceReturnsAt g.F.FnOnce f shown.0 c.in-Ok.answer) c.loop.invariant.1 shown.2,
         all.noted,
       );
+      own =
+          λ alone.
+          subst (λ f. FnOnceReturnsAt g.F.FnOnce f (bytes_at (laid_in c.args.member.now root) c.args.offset c.args.len)
+          c.in-Ok.answer) c.loop.invariant.1
+          (subst (λ (v : SeatView). IsLone root v → FnOnceReturnsAt g.F.FnOnce c.loop.f
+          (bytes_at (own_bytes root v) c.args.offset c.args.len) c.in-Ok.answer) c.loop.invariant.0.view own alone);
     }
 
 pub loop-init : goal.loop-init

@@ -1,4 +1,4 @@
-use Rattle.std.proofs.Common.{◌≡◌, ◌*◌, ◌-◌, ◌<◌, Result, refl, sym, subst, arith}
+use Rattle.std.proofs.Common.{◌≡◌, ◌*◌, ◌-◌, ◌<◌, Result, None, refl, sym, subst, arith}
 use Rattle.std.specs.Prelude.{IfOk}
 use Rattle.pool_law.specs.declared.id.RootId.{RootId}
 use Rattle.pool_table.specs.Counts.{HasCount}
@@ -11,6 +11,7 @@ use Rattle.buffer_pool.specs.declared.member.Member.{Member}
 use Rattle.buffer_pool.specs.declared.pending.Pending.{Pending}
 use Rattle.buffer_pool.specs.declared.pending.Pending.TheVariants.{Tried}
 use Rattle.buffer_pool.specs.Threads.{Does}
+use Rattle.buffer_pool.proofs.AloneLater.{stays_later}
 use Rattle.buffer_pool.proofs.Keeping.{alone_at, few_of, kept_on, may_begin, one_self, spends_more, spends_none, tells_known, times_one}
 use Rattle.buffer_pool.proofs.Letters.{later_letters}
 use Rattle.buffer_pool.proofs.Settling.{none_got, none_gone}
@@ -62,12 +63,13 @@ returns-in-Ok-clause-does c =
     } in
     let spends = spends_more (once_more root) 6 old.account after.account refl (omega (arith, le)) c.add.ensures.places
     root (omega arith) (times_one root) (λ other. refl) c.add.ensures.counts c.add.ensures.keeps in
-    subst (λ (p : Pending). Does pool 6 (once_more root) old (record after { pending = p })) (sym c.keep.ensures)
+    subst (λ (p : Pending). Does pool 6 (once_more root) None old (record after { pending = p })) (sym c.keep.ensures)
     (kept_on pool (once_more root) goes.spent 0 6 old after is did.goes did.changes spends
     (tells_known pool (once_more root) goes.spent 0 6 old after is did.goes did.changes spends c.add.ensures.tells)
     (let a = goes.within in omega (arith, a))
     (let a = did.goes.moves_left in let b = is.works.moves_left in omega (arith, a, b)) goes.begun
-    (later_letters pool old.seat call.new.seat goes.later) refl)
+    (later_letters pool old.seat call.new.seat goes.later) refl None
+    (stays_later pool old.seat call.new.seat goes.later) c.add.ensures.alone)
 
 pub returns-in-Err-clause-does : goal.returns-in-Err-clause-does
 returns-in-Err-clause-does c =
@@ -84,9 +86,10 @@ returns-in-Err-clause-does c =
     } in
     let spends = spends_none change 6 old.account after.account refl (omega (arith, le)) refl (none_got no)
     (none_gone no) (λ other. refl) (λ other. omega arith) in
-    subst (λ (p : Pending). Does pool 6 change old (record after { pending = p })) (sym c.keep.ensures)
+    subst (λ (p : Pending). Does pool 6 change None old (record after { pending = p })) (sym c.keep.ensures)
     (kept_on pool change goes.spent 0 6 old after is did.goes did.changes spends
     (tells_known pool change goes.spent 0 6 old after is did.goes did.changes spends (λ root. omega arith))
     (let a = goes.within in omega (arith, a))
     (let a = did.goes.moves_left in let b = is.works.moves_left in omega (arith, a, b)) goes.begun
-    (later_letters pool old.seat call.new.seat goes.later) refl)
+    (later_letters pool old.seat call.new.seat goes.later) refl None
+    (stays_later pool old.seat call.new.seat goes.later) (λ q kept. kept))

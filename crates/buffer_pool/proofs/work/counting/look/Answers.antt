@@ -1,8 +1,9 @@
-use Rattle.std.proofs.Common.{◌+◌, refl, arith}
+use Rattle.std.proofs.Common.{◌+◌, None, refl, arith}
 use Rattle.seat_work.specs.Changes.{no_change}
 use Rattle.seat_tries.proofs.Carrying.{looks}
 use Rattle.buffer_pool.specs.declared.member.Member.{Member}
 use Rattle.buffer_pool.specs.Pendings.{hand_of, owed}
+use Rattle.buffer_pool.proofs.Alone.{stays_ref}
 use Rattle.buffer_pool.proofs.Keeping.{has_count, kept_on, spends_none, tells_known}
 use Rattle.buffer_pool.proofs.Letters.{ref_letters}
 use Rattle.pool_law.specs.declared.note.RefDid.TheVariants.{Look}
@@ -29,4 +30,6 @@ returns-clause-does c =
     (tells_known pool no_change 0 0 0 old new is did.goes did.changes spends (λ root. omega arith))
     (omega arith) (let a = did.goes.moves_left in let b = is.works.moves_left in omega (arith, a, b))
     (pending_stays pool old.pending old.seat new.seat did.sends.setting is.pending)
-    (ref_letters old.seat new.seat c.args.root (Look call.result) (view_of old.seat).moves call.ensures.did) refl
+    (ref_letters old.seat new.seat c.args.root (Look call.result) (view_of old.seat).moves call.ensures.did) refl None
+    (stays_ref None old.seat new.seat c.args.root (Look call.result) (view_of old.seat).moves call.ensures.did)
+    (λ q kept. kept)

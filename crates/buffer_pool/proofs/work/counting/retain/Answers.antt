@@ -1,4 +1,4 @@
-use Rattle.std.proofs.Common.{◌-◌, refl, arith}
+use Rattle.std.proofs.Common.{◌-◌, None, refl, arith}
 use Rattle.pool_law.specs.declared.note.RefDid.TheVariants.{Retain}
 use Rattle.shared_pool.specs.SeatViews.{view_of}
 use Rattle.seat_work.specs.Changes.{once_more}
@@ -7,6 +7,7 @@ use Rattle.seat_tries.proofs.Carrying.{retains}
 use Rattle.buffer_pool.specs.declared.member.Member.{Member}
 use Rattle.buffer_pool.proofs.CountLaws.{counted_within}
 use Rattle.buffer_pool.specs.Pendings.{hand_of}
+use Rattle.buffer_pool.proofs.Alone.{stays_ref}
 use Rattle.buffer_pool.proofs.Keeping.{alone_at, few_of, has_count, kept_on, may_work, spends_more, tells_known, times_one}
 use Rattle.buffer_pool.proofs.Letters.{ref_letters}
 use Rattle.buffer_pool.proofs.Pendings.{pending_stays}
@@ -64,7 +65,9 @@ returns-clause-does c =
     (tells_known pool more 0 1 1 old new is did.goes did.changes spends c.add.ensures.tells) (omega arith)
     (let a = did.goes.moves_left in let b = is.works.moves_left in omega (arith, a, b, lf))
     (pending_stays pool old.pending old.seat call.new.seat did.sends.setting is.pending)
-    (ref_letters old.seat call.new.seat root Retain ((view_of old.seat).moves - 1) call.ensures.did) refl
+    (ref_letters old.seat call.new.seat root Retain ((view_of old.seat).moves - 1) call.ensures.did) refl None
+    (stays_ref None old.seat call.new.seat root Retain ((view_of old.seat).moves - 1) call.ensures.did)
+    c.add.ensures.alone
 
 pub returns-clause-moves : goal.returns-clause-moves
 returns-clause-moves c = let lf = c.requires.moves in omega (arith, lf)

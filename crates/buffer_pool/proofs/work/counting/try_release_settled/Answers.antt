@@ -1,9 +1,10 @@
-use Rattle.std.proofs.Common.{◌-◌, refl, sym, subst, arith}
+use Rattle.std.proofs.Common.{◌-◌, None, refl, sym, subst, ◌∙◌, arith}
 use Rattle.seat_work.specs.Changes.{once_less}
 use Rattle.buffer_pool.specs.declared.member.Member.{Member}
 use Rattle.buffer_pool.specs.declared.pending.Pending.{Pending}
 use Rattle.buffer_pool.specs.declared.pending.Pending.TheVariants.{Tried}
 use Rattle.buffer_pool.specs.Threads.{Does}
+use Rattle.buffer_pool.proofs.AloneLater.{stays_later}
 use Rattle.buffer_pool.proofs.Keeping.{has_count, kept_on, may_begin, spends_less, tells_known, times_one}
 use Rattle.buffer_pool.proofs.Letters.{later_letters}
 use Rattle.buffer_pool.proofs.MoveLaws.{moves_left}
@@ -35,11 +36,12 @@ returns-clause-does c =
     let le = c.requires.turns in
     let spends = spends_less change 4 old.account after.account refl (omega (arith, le)) c.take.ensures.places
     c.args.root (λ other. refl) (times_one c.args.root) c.take.ensures.counts c.take.ensures.tells in
-    subst (λ (p : Pending). Does pool 4 change old (record after { pending = p })) (sym c.keep.ensures)
+    subst (λ (p : Pending). Does pool 4 change None old (record after { pending = p })) (sym c.keep.ensures)
     (kept_on pool change goes.spent 0 4 old after is did.goes did.changes spends
     (tells_known pool change goes.spent 0 4 old after is did.goes did.changes spends
     (λ root. (let a = c.take.ensures.tells root in omega (arith, a))))
     (let a = goes.within in omega (arith, a))
     (moves_left pool old call.new.seat is last c.moves_after-member.result did.goes.moves_left call.ensures.moves
     c.moves_after-member.ensures)
-    goes.begun (later_letters pool old.seat call.new.seat goes.later) refl)
+    goes.begun (later_letters pool old.seat call.new.seat goes.later) refl None
+    (stays_later pool old.seat call.new.seat goes.later) (λ q kept. sym (c.take.ensures.alone q) ∙ kept))

@@ -1,4 +1,4 @@
-use Rattle.std.proofs.Common.{◌≡◌, ℕ, ◌-◌, le_refl, ◌≤◌, Ok, Err, refl, arith}
+use Rattle.std.proofs.Common.{◌≡◌, ℕ, ◌-◌, le_refl, ◌≤◌, Ok, Err, Some, refl, sym, ◌∙◌, arith}
 use Rattle.std.proofs.Math.Nat.{le_trans}
 use Rattle.pool_law.specs.declared.id.RootId.{RootId}
 use Rattle.pool_table.specs.Capacities.{knows_of}
@@ -9,6 +9,7 @@ use Rattle.seat_work.specs.Changes.{times}
 use Rattle.seat_work.specs.Regrowths.{grown}
 use Rattle.buffer_pool.specs.declared.member.Member.{Member}
 use Rattle.buffer_pool.specs.Counting.{known, told}
+use Rattle.buffer_pool.proofs.AloneLater.{grows_alone, stays_asked}
 use Rattle.buffer_pool.proofs.Keeping.{has_count, knows_too, may_begin, settled_on, spends_none, tell_known, tells_settled, told_self}
 use Rattle.buffer_pool.proofs.Letters.{later_letters_but}
 use Rattle.buffer_pool.proofs.work.growth.grow_settled.Goals as goal
@@ -39,7 +40,8 @@ returns-in-Ok-clause-does g c =
     let g : told old.account.counts q ≤ w = omega (arith, b', d') in g) c.in-Ok.ensures.capacity.knows in
     settled_on pool change 6 0 6 old new is c.requires.settled refl did.goes did.changes spends knows (omega arith)
     (let a = did.goes.moves_left in let b = is.works.moves_left in omega (arith, a, b))
-    (later_letters_but pool root old.seat call.new.seat call.ensures.later) refl
+    (later_letters_but pool root old.seat call.new.seat call.ensures.later) refl (Some root)
+    (stays_asked pool root old.seat call.new.seat call.ensures.later) (λ q kept. sym (c.tell.ensures.alone q) ∙ kept)
 
 -- a refusal counts no root
 none_got : (no : GrowNo) (q : RootId) → times q (grown (Err no)).got ≡ 0
@@ -63,7 +65,8 @@ returns-in-Err-clause-does g c =
     (tells_settled pool change 6 0 6 old new is c.requires.settled refl did.goes did.changes spends
     (λ q. omega arith)) (omega arith)
     (let a = did.goes.moves_left in let b = is.works.moves_left in omega (arith, a, b))
-    (later_letters_but pool c.args.root old.seat call.new.seat call.ensures.later) refl
+    (later_letters_but pool c.args.root old.seat call.new.seat call.ensures.later) refl (Some c.args.root)
+    (stays_asked pool c.args.root old.seat call.new.seat call.ensures.later) (λ q kept. kept)
 
 pub returns-in-Ok-clause-counts : goal.returns-in-Ok-clause-counts
 returns-in-Ok-clause-counts g c =
@@ -79,3 +82,13 @@ returns-in-Ok-clause-knows g c =
     let learned : u ≤ c.in-Ok.capacity = c.in-Ok.ensures.capacity.knew in
     let first : known old.account.counts root ≤ c.in-Ok.capacity = le_trans below learned in
     (first, omega (arith, a, b))
+
+pub returns-in-Ok-clause-alone : goal.returns-in-Ok-clause-alone
+returns-in-Ok-clause-alone g c =
+    let old = c.args.member.now in let new : Member = record old { seat = c.grow.new.seat } in
+    grows_alone c.args.pool.now c.args.root old new c.grow.ensures.later
+
+pub returns-in-Err-clause-alone : goal.returns-in-Err-clause-alone
+returns-in-Err-clause-alone g c =
+    let old = c.args.member.now in let new : Member = record old { seat = c.grow.new.seat } in
+    grows_alone c.args.pool.now c.args.root old new c.grow.ensures.later

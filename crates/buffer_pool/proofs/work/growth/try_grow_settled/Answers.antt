@@ -1,4 +1,4 @@
-use Rattle.std.proofs.Common.{ℕ, ◌-◌, ◌≤◌, Result, Ok, Err, refl, sym, subst, arith}
+use Rattle.std.proofs.Common.{ℕ, ◌-◌, ◌≤◌, Result, Ok, Err, Some, refl, sym, ◌∙◌, subst, arith}
 use Rattle.pool_law.specs.declared.id.RootId.{RootId}
 use Rattle.pool_table.specs.Capacities.{knows_of}
 use Rattle.shared_pool.specs.SeatViews.{view_of}
@@ -9,6 +9,7 @@ use Rattle.buffer_pool.specs.Counting.{told}
 use Rattle.buffer_pool.specs.Growths.{asked, AsksOn}
 use Rattle.buffer_pool.specs.Threads.{Does}
 use Rattle.buffer_pool.proofs.Asking.{asked_got, asked_gone}
+use Rattle.buffer_pool.proofs.AloneLater.{grows_alone, stays_asked}
 use Rattle.buffer_pool.proofs.Keeping.{has_count, kept_on, may_begin, spends_none, tell_known, tells_known}
 use Rattle.buffer_pool.proofs.Letters.{later_letters_but}
 use Rattle.buffer_pool.proofs.work.growth.try_grow_settled.Goals as goal
@@ -42,11 +43,12 @@ returns-in-Ok-clause-does c =
     let u : ℕ = knows_of q (view_of old.seat) in let w : ℕ = knows_of q (view_of call.new.seat) in
     let b' : told old.account.counts q ≤ u = b in let d' : u ≤ w = d in
     let g : told old.account.counts q ≤ w = omega (arith, b', d') in g) asks.has.1.knows in
-    subst (λ (p : Pending). Does pool 6 change old (record after { pending = p })) (sym c.keep.ensures)
+    subst (λ (p : Pending). Does pool 6 change (Some root) old (record after { pending = p })) (sym c.keep.ensures)
     (kept_on pool change asks.spent 0 6 old after is did.goes did.changes spends knows
     (let a = asks.within in omega (arith, a))
     (let a = did.goes.moves_left in let b = is.works.moves_left in omega (arith, a, b)) asks.pending
-    (later_letters_but pool root old.seat call.new.seat asks.later) refl)
+    (later_letters_but pool root old.seat call.new.seat asks.later) refl (Some root)
+    (stays_asked pool root old.seat call.new.seat asks.later) (λ q kept. sym (c.tell.ensures.alone q) ∙ kept))
 
 pub returns-in-Err-clause-does : goal.returns-in-Err-clause-does
 returns-in-Err-clause-does c =
@@ -64,13 +66,24 @@ returns-in-Err-clause-does c =
     } in
     let spends = spends_none change 6 old.account after.account refl (omega (arith, le)) refl (asked_got c.in-Err.no)
     (asked_gone c.in-Err.no) (λ q. refl) (λ q. omega arith) in
-    subst (λ (p : Pending). Does pool 6 change old (record after { pending = p })) (sym c.keep.ensures)
+    subst (λ (p : Pending). Does pool 6 change (Some root) old (record after { pending = p })) (sym c.keep.ensures)
     (kept_on pool change asks.spent 0 6 old after is did.goes did.changes spends
     (tells_known pool change asks.spent 0 6 old after is did.goes did.changes spends (λ q. omega arith))
     (let a = asks.within in omega (arith, a))
     (let a = did.goes.moves_left in let b = is.works.moves_left in omega (arith, a, b)) asks.pending
-    (later_letters_but pool root old.seat call.new.seat asks.later) refl)
+    (later_letters_but pool root old.seat call.new.seat asks.later) refl (Some root)
+    (stays_asked pool root old.seat call.new.seat asks.later) (λ q kept. kept))
 
 pub returns-in-Ok-clause-counts : goal.returns-in-Ok-clause-counts
 returns-in-Ok-clause-counts c =
     let a = c.tell.ensures.counts c.args.root in let b = c.requires.counts in omega (arith, a, b)
+
+pub returns-in-Ok-clause-alone : goal.returns-in-Ok-clause-alone
+returns-in-Ok-clause-alone c =
+    let old = c.args.member.now in let new : Member = record old { seat = c.ask-answer.new.seat } in
+    grows_alone c.args.pool.now c.args.root old new c.ask-answer.ensures.later
+
+pub returns-in-Err-clause-alone : goal.returns-in-Err-clause-alone
+returns-in-Err-clause-alone c =
+    let old = c.args.member.now in let new : Member = record old { seat = c.ask-answer.new.seat } in
+    grows_alone c.args.pool.now c.args.root old new c.ask-answer.ensures.later

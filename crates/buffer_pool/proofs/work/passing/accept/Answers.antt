@@ -1,4 +1,4 @@
-use Rattle.std.proofs.Common.{◌≡◌, ℕ, ◌+◌, ◌-◌, ◌<◌, ◌≤◌, length, Option, Some, refl, sym, ap, subst, arith}
+use Rattle.std.proofs.Common.{◌≡◌, ℕ, ◌+◌, ◌-◌, ◌<◌, ◌≤◌, length, Option, None, Some, refl, sym, ap, ◌∙◌, subst, arith}
 use Rattle.std.specs.Prelude.{IfSome, slice_get}
 use Rattle.std.specs.Vec.{with_item}
 use Rattle.pool_law.specs.declared.id.Parcel.{Parcel}
@@ -18,6 +18,7 @@ use Rattle.seat_tries.proofs.Carrying.{fetches}
 use Rattle.buffer_pool.specs.declared.member.Member.{Member}
 use Rattle.buffer_pool.specs.Counting.{counted, told}
 use Rattle.buffer_pool.specs.Pendings.{hand_of}
+use Rattle.buffer_pool.proofs.Alone.{keeps, stays_fetched}
 use Rattle.buffer_pool.proofs.Keeping.{alone_at, kept_by, may_work, one_self, spends_more, tell_known, times_one, told_self}
 use Rattle.buffer_pool.proofs.Passing.{lane_below, next_here, none_sent, received_now, to_here}
 use Rattle.buffer_pool.proofs.Pendings.{pending_stays}
@@ -121,4 +122,7 @@ returns-clause-does c =
     subst (λ (k : ℕ). slice_get (with_item old.account.received k number).items f
     ≡ Some (received_on f old.account.lane (view_of call.new.seat).own.notes))
     (sym (ap (λ (x : Letter). x.from) c.letter-from.ensures))
-    (received_now pool old is letter may sender call.new.seat number parcel call.ensures.received f lt))
+    (received_now pool old is letter may sender call.new.seat number parcel call.ensures.received f lt)) None
+    (keeps None old new (stays_fetched old new letter.from number parcel call.ensures.received))
+    (λ q kept. (stays_fetched old new letter.from number parcel call.ensures.received).alone q
+    (is.alone q (c.add.ensures.alone q (sym (c.tell.ensures.alone q) ∙ kept))))

@@ -1,9 +1,9 @@
-use Rattle.std.proofs.Common.{sym, subst}
+use Rattle.std.proofs.Common.{sym, subst, rules}
 use Rattle.seat_work.specs.Works.{Works}
 use Rattle.buffer_pool.specs.declared.pending.Pending.{Pending}
 use Rattle.buffer_pool.specs.Pendings.{hand_of, owed, IsPending, PutsAway}
 use Rattle.buffer_pool.proofs.Keeping.{may_finish}
-use Rattle.buffer_pool.proofs.Settling.{settles}
+use Rattle.buffer_pool.proofs.Settling.{settles, settles_none}
 use Rattle.buffer_pool.proofs.work.settling.try_settle.Goals as goal
 
 pub put_away-left-requires-clause-works : goal.put_away-left-requires-clause-works
@@ -17,6 +17,9 @@ put_away-left-requires-clause-pending c =
     subst (IsPending c.args.pool.now c.args.member.now.seat) (sym c.replace-pending.ensures.value)
     c.requires.thread.pending
 
+pub returns-then-is_nothing-clause-settles : goal.returns-then-is_nothing-clause-settles
+returns-then-is_nothing-clause-settles c = settles_none c.args.pool.now c.args.member.now c.requires.thread
+
 pub returns-clause-settles : goal.returns-clause-settles
 returns-clause-settles c =
     let pool = c.args.pool.now in let old = c.args.member.now in let call = c.put_away-left in
@@ -25,4 +28,5 @@ returns-clause-settles c =
     c.replace-pending.ensures.value
     (subst (λ (p : Pending). PutsAway pool (owed c.replace-pending.result) old.seat call.new.seat p)
     (sym c.keep.ensures) call.ensures) in
-    settles pool old call.new.seat c.keep.new.pending c.requires.thread away
+    settles pool old call.new.seat c.keep.new.pending c.requires.thread
+    (λ settled. search (rules, c.is_nothing.ensures.1 settled)) away

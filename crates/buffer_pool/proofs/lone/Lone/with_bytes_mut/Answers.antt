@@ -1,0 +1,47 @@
+use Rattle.std.proofs.Common.{◌≡◌, List, ℕ, true, length, sym, subst}
+use Rattle.std.specs.Prelude.{IfOk, MatchResult, None, OnOk, Some}
+use Rattle.std.specs.Fn.{FnOnceReturnsAtMut}
+use Rattle.pool_law.specs.Roots.{bytes_at, laid_over}
+use Rattle.pool_law.specs.Views.{in_range, view_of}
+use Rattle.buffer_pool.specs.Alone.{IsAlone}
+use Rattle.buffer_pool.specs.Counting.{is_alone}
+use Rattle.buffer_pool.specs.Lones.{bytes_of, lone_no}
+use Rattle.buffer_pool.specs.Windows.{Window}
+use Rattle.buffer_pool.proofs.Lones.{if_alone_set, if_set, lone_answers}
+use Rattle.buffer_pool.proofs.lone.Lone.with_bytes_mut.Goals as goal
+
+pub returns-clause-answers : goal.returns-clause-answers
+returns-clause-answers g c =
+    let a = c.args.thread.now.account in let start = c.args.start in let n = c.args.len in
+    let kept = subst (λ (w : Window). is_alone a.counts w.at.root ≡ true) (sym c.self.view_is)
+    c.in_ok-is_of.ensures.kept in
+    subst (λ (w : Window). MatchResult c.with_bytes_mut.result (λ _. lone_no a w (in_range w.at start n) ≡ None)
+    (λ why. lone_no a w (in_range w.at start n) ≡ Some why)) c.self.view_is
+    (lone_answers c.with_bytes_mut.result a c.self.inside.buffer (in_range c.self.inside.buffer.at start n) kept
+    c.with_bytes_mut.ensures.answers)
+
+pub returns-clause-bytes : goal.returns-clause-bytes
+returns-clause-bytes g c =
+    let old = c.args.thread.now in let new = c.with_bytes_mut.new.self in let start = c.args.start in
+    let w : Window = c.self.inside.buffer in let n = c.args.len in let r = c.with_bytes_mut.result in
+    let e = c.with_bytes_mut.ensures in
+    let whole = subst (λ (w : Window). w.at ≡ view_of w.at.root) (sym c.self.view_is) c.in_ok-is_of.ensures.whole in
+    let alone = subst (λ (w : Window). IsAlone old w.at.root) (sym c.self.view_is) c.in_ok-is_of.ensures.alone in
+    subst (λ (w : Window). IfOk r (λ answer. (after : List ℕ) × (length after ≡ c.args.len)
+    × FnOnceReturnsAtMut g.F.FnOnce c.args.f (bytes_at (bytes_of old w) start c.args.len) answer after
+    × (bytes_of new w ≡ laid_over (bytes_of old w) start after))) c.self.view_is
+    (if_set w whole start n old new alone
+    (λ before answer after. FnOnceReturnsAtMut g.F.FnOnce c.args.f before answer after)
+    c.args.pool.now r e.answers e.set)
+
+pub returns-clause-alone : goal.returns-clause-alone
+returns-clause-alone g c =
+    let old = c.args.thread.now in let new = c.with_bytes_mut.new.self in let start = c.args.start in
+    let w : Window = c.self.inside.buffer in let n = c.args.len in let r = c.with_bytes_mut.result in
+    let e = c.with_bytes_mut.ensures in
+    let whole = subst (λ (w : Window). w.at ≡ view_of w.at.root) (sym c.self.view_is) c.in_ok-is_of.ensures.whole in
+    let alone = subst (λ (w : Window). IsAlone old w.at.root) (sym c.self.view_is) c.in_ok-is_of.ensures.alone in
+    subst (λ (w : Window). OnOk r (IsAlone new w.at.root)) c.self.view_is
+    (if_alone_set w whole start n old new alone
+    (λ before answer after. FnOnceReturnsAtMut g.F.FnOnce c.args.f before answer after)
+    c.args.pool.now r e.set)
