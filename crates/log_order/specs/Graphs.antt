@@ -7,6 +7,12 @@ use Rattle.log_order.specs.Precedence.{MustStandBefore}
 use Rattle.log_order.specs.declared.graph.Graph.{Graph}
 use Rattle.log_order.specs.declared.spots.Spot.{Spot}
 
+-- each node has a list of those that must stand before it, and these are nodes
+abbrev pub AreNeeds : List Spot → List (Vec ℕ Global) → Type 0
+AreNeeds spots needs =
+    (length needs ≡ length spots)
+    × ((first node : ℕ) → MustPrecede needs first node → first < length spots)
+
 -- the nodes are the notes at these places of the logs, and where a node must stand before another, so
 -- must its note
 pub record AreNodesOf (logs : Logs) (spots : List Spot) (needs : List (Vec ℕ Global)) : Type 0 where

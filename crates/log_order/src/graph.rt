@@ -1,6 +1,7 @@
 //! The notes of a run as nodes.
 
 ghost use Rattle.std.specs.Prelude.{◌≡◌, ℕ, ◌<◌, [], ◌∷◌, ◌++◌, length, Some, slice_get, IfOk, IfSome, OnOk};
+ghost use Rattle.pool_law.specs.Logs.{Logs};
 ghost use Rattle.log_order.specs.Spots.{notes_in};
 ghost use Rattle.log_order.specs.Graphs.{IsGraph, AreBack};
 ghost use Rattle.log_order.specs.Filling.{Grows, Links};
@@ -21,11 +22,10 @@ pub struct Graph {
 
 impl Graph {
     /// No note.
-    pub(crate) fn new(alloc: Global, logs: &[LaneLog]) -> Graph
-        ensures graph { IsGraph (notes_in logs.now) result }
+    pub(crate) fn new(alloc: Global) -> Graph
+        ensures graph { (logs : Logs) → IsGraph logs result }
         ensures spots { result.spots.items ≡ [] }
     {
-        let _logs = logs;
         Graph {
             spots: Vec::new(alloc),
             needs: Vec::new(alloc),
@@ -34,17 +34,11 @@ impl Graph {
     }
 
     /// One more node.
-    pub(crate) fn push(
-        &mut self,
-        alloc: Global,
-        logs: &[LaneLog],
-        spot: Spot,
-    ) -> Result<(), AllocError>
-        requires { IsGraph (notes_in logs.now) self.old }
-        ensures graph { OnOk result (IsGraph (notes_in logs.now) self.new) }
+    pub(crate) fn push(&mut self, alloc: Global, spot: Spot) -> Result<(), AllocError>
+        ensures graph { (logs : Logs) → IsGraph logs self.old →
+            OnOk result (IsGraph logs self.new) }
         ensures spots { OnOk result (self.new.spots.items ≡ self.old.spots.items ++ spot ∷ []) }
     {
-        let _logs = logs;
         self.spots.push(spot)?;
         self.needs.push(Vec::new(alloc))?;
         Ok(())

@@ -30,7 +30,7 @@ fn push_note(
         (IsFilled (notes_in logs.now) graph.new index.new spot.lane (spot.at + 1)) }
 {
     let node = graph.spots.len();
-    graph.push(alloc, logs, spot)?;
+    graph.push(alloc, spot)?;
     index.add(alloc, stage_of(note), node)?;
     Ok(())
 }
@@ -147,7 +147,7 @@ fn link_nodes(logs: &[LaneLog], index: &Index, graph: &mut Graph) -> Result<(), 
 pub(crate) fn graph_of(alloc: Global, logs: &[LaneLog]) -> Result<Graph, AllocError>
     ensures { IfOk result (λ graph. IsWhole (notes_in logs.now) graph) }
 {
-    let mut graph = Graph::new(alloc, logs);
+    let mut graph = Graph::new(alloc);
     let mut index = Index::new(alloc);
     for lane in 0..logs.len() {
         push_lane(alloc, logs, lane, &mut graph, &mut index)?;

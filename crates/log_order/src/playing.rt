@@ -1,8 +1,9 @@
 //! Notes played one after another, as far as they go.
 
 ghost use Rattle.std.specs.Prelude.{◌≡◌, ◌<◌, ◌↔◌, ℕ, true, nat_lt, Some, length, get_or, slice_get, IfOk, IfSome, OnOk, IsTrue};
+ghost use Rattle.pool_law.specs.Logs.{Logs};
 ghost use Rattle.log_order.specs.Spots.{notes_in};
-ghost use Rattle.log_order.specs.Graphs.{IsGraph};
+ghost use Rattle.log_order.specs.Graphs.{AreNeeds, IsGraph};
 ghost use Rattle.log_order.specs.Playing.{IsSoFar, IsOver, IsHeld, IsLeft, MustWait, AreHeld, MovesOn};
 ghost use Rattle.log_order.specs.declared.playing.Eager.TheVariants.{Any};
 
@@ -82,11 +83,11 @@ impl Play {
     }
 
     // Whether a note that must stand before this one was not played.
-    fn must_wait(&self, logs: &[LaneLog], graph: &Graph, spot: &Spot) -> bool
-        requires { IsGraph (notes_in logs.now) graph.now }
-        ensures { IsTrue result → MustWait (notes_in logs.now) self.now.next.items spot.now }
+    fn must_wait(&self, graph: &Graph, spot: &Spot) -> bool
+        requires { AreNeeds graph.now.spots.items graph.now.needs.items }
+        ensures { (logs : Logs) → IsGraph logs graph.now → IsTrue result →
+            MustWait logs self.now.next.items spot.now }
     {
-        let _logs = logs;
         let Some(node) = graph.node_of(spot) else {
             return false;
         };
@@ -157,7 +158,7 @@ impl Play {
         if !self.tally.fits(note)? {
             return Ok(false);
         }
-        if self.must_wait(logs, graph, &spot) {
+        if self.must_wait(graph, &spot) {
             return Ok(false);
         }
         self.tally.pass(note)?;

@@ -10,7 +10,7 @@ loop-lane-init c =
     let logs = notes_in c.args.logs.now in
     let e = c.new-graph.ensures in
     record {
-      graph = e.graph;
+      graph = e.graph logs;
       placed = subst (λ z. ArePlaced logs z 0 0) (sym e.spots) (none-placed logs);
       listed = λ node s n at is.
           let none : slice_get [] node ≡ Some s = ap (λ z. slice_get z node) (sym e.spots) ∙ at in

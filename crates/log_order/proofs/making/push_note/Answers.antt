@@ -20,4 +20,5 @@ returns c =
     then listed old z ++ length c.args.graph.now.spots.items ∷ [] else listed old other))
     c.stage_of.ensures counted in
     filled-more (notes_in c.args.logs.now) c.args.graph.now c.push.new.self old new c.args.spot c.args.note.now
-    c.requires.filled c.requires.stands c.in_ok-push.ensures.graph c.in_ok-push.ensures.spots more
+    c.requires.filled c.requires.stands (c.in_ok-push.ensures.graph (notes_in c.args.logs.now) c.requires.filled.graph)
+    c.in_ok-push.ensures.spots more
