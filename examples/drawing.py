@@ -2,6 +2,7 @@
 import re
 import xml.etree.ElementTree as xml
 
+from judging import GIVEN_TWICE
 from trying import HERE, REFUSED, TEXT_LIMIT, UNREAD, WHOLE, WORDS, WRITE_FAULT
 from trying import case_of, cut_off, expect, json_of, run, try_ends
 
@@ -72,14 +73,14 @@ def takings_drawn(svg):
 
 
 def takings_told(text):
-    """The same from the notes of a text: each take, and the give of its taking."""
+    """The same from the notes of a text: each take, and the first give of its taking."""
     takes, gives = {}, {}
     for line in text.splitlines():
         match line.split(" "):
             case ["note", lane, "arena", arena, number, "take", of_class, place, taking]:
                 takes[arena, taking] = (place, of_class, number, lane)
             case ["note", lane, "arena", arena, number, "give", place, taking]:
-                gives[arena, taking] = (number, lane)
+                gives.setdefault((arena, taking), (number, lane))
     told = []
     for (arena, taking), (place, of_class, number, lane) in takes.items():
         chunk, offset = place.split("+")
@@ -175,6 +176,9 @@ def try_refusals(view, poolrun):
         expect(f"run_view < text {text[:50]}", ran=(run(view, [], json_of({**case, "text": text})), want))
     illegal = case_of(poolrun, "smallest", {"get ok 68656c6c6f": "get ok 68656c6c70"})
     expect("run_view < an illegal run", status=(run(view, [], json_of(illegal))[0], WHOLE))
+    twice = case_of(poolrun, "smallest", GIVEN_TWICE)
+    status, svg, _ = run(view, [], json_of(twice))
+    expect("run_view < a region that is given twice", status=(status, WHOLE), takings=(takings_drawn(svg), takings_told(twice["text"])))
 
 
 def try_view(view, poolrun):

@@ -85,18 +85,20 @@ def try_refusals(cut):
             expect(f"frame_cut < {name} by {block}", ran=(ran, (REFUSED, "", f"refused {line}\n")))
     expect("frame_cut < the longest stream", ran=(run(cut, [], full), (WHOLE, text_of([bytes_of(LENGTH_LIMIT - HEAD)] * 64), "")))
     expect("frame_cut < 00000003 6162", ran=(run(cut, [], head(3) + b"ab"), (REFUSED, "", "refused frame 0\n")))
-    # a block that is refused is the last that is read
-    with tempfile.TemporaryFile() as file:
-        file.write(head(LENGTH_LIMIT + 1) + bytes(5000))
-        file.seek(0)
-        ran = run(cut, ["--block=1024"], file)
-        expect("frame_cut < a file", ran=(ran, (REFUSED, "", "refused length 0\n")), read=(os.lseek(file.fileno(), 0, os.SEEK_CUR), 1024))
+    # a block that is refused is the last that is read, and a block has 8,192 bytes where no word says how many
+    for words, block in (["--block=1024"], 1024), ([], 8192):
+        with tempfile.TemporaryFile() as file:
+            file.write(head(LENGTH_LIMIT + 1) + bytes(20_000))
+            file.seek(0)
+            ran = run(cut, words, file)
+            read = os.lseek(file.fileno(), 0, os.SEEK_CUR)
+        expect(f"frame_cut {words} < a file", ran=(ran, (REFUSED, "", "refused length 0\n")), read=(read, block))
 
 
 def try_words(cut):
     for words in ("--workers 15 --block=1024", "--workers=1 --block 65536", "--block 1024", ""):
         expect(f"frame_cut {words}", ran=(run(cut, words.split(), stream_of(ABC)), (WHOLE, ABC_TEXT, "")))
-    refused = ["--block 512", "--block=1023", "--block=65537", "--workers 0", "--workers=16", "--workers", "--block=", "--workers=1 --workers=1"]
+    refused = ["--block 512", "--block=1023", "--block=65537", "--workers 0", "--workers=16", "--workers", "--block=", "--workers=1 --workers=1", "--block=1024 --block=8192"]
     for words in [*refused, "4", "--blocks 1024", "--workers +4", "--block 01024x"]:
         expect(f"frame_cut {words}", ran=(run(cut, words.split(), stream_of(ABC)), (WORDS, "", "refused words\n")))
 

@@ -11,6 +11,13 @@ CHUNKS = "the next is not what the arenas have at the end"
 LEAKS = "the next is not that of the next sampled root that is live"
 FORM = "no run of this trace has such a line here"
 
+# What is changed in the text of `smallest` so that its region is given a second time.
+GIVEN_TWICE = {"note 0 arena 0 2 give 0+0 1\n": "note 0 arena 0 2 give 0+0 1\nnote 0 arena 0 3 give 0+0 1\n"}
+
+# What the closing of its lane notes in the text of `smallest`.
+CLOSING = "note 0 cache 0 0 1 close 0\nnote 0 cache 0 1 3 close 1\nnote 0 cache 0 1 4 shed 1\nnote 0 arena 0 2 give 0+0 1\n"
+CLOSING += "".join(f"note 0 cache 0 {of_class} 1 close 0\n" for of_class in range(2, 40))
+
 # Of an example the places that are changed in its text with history, and what run_judge says of that: its status, and its lines with
 # "; " between them. Where nothing else is said, it is legal.
 JUDGED = [
@@ -40,9 +47,24 @@ JUDGED = [
         {"note 0 ref 0.1 ended\nnote 0 root 0 4 end 1\n": "note 0 root 0 4 end 1\nnote 0 ref 0.1 ended\n"},
         f"1 not legal: 0.3: {ANSWERS}",
     ),
-    # a note too few: at the end of a command, of the closing
+    # a root that skips a generation, and a region that is given twice: each number stands once
+    (
+        "smallest",
+        {
+            "root 0 1 birth 1 0.0+0 1 1 24\nnote 0 ref 0.1 born": "root 0 1 birth 2 0.0+0 1 1 24\nnote 0 ref 0.2 born",
+            "ref 0.1 ended\nnote 0 root 0 4 end 1\nnote 0 ref 0.1 vacated": "ref 0.2 ended\nnote 0 root 0 4 end 2\nnote 0 ref 0.2 vacated",
+        },
+        f"1 not legal: root 0 number 1: {HISTORY}",
+    ),
+    ("smallest", GIVEN_TWICE, f"1 not legal: arena 0 number 3: {HISTORY}"),
+    # a region that a full cache keeps
+    ("cache_full", {"note 0 cache 0 39 130 back full 65": "note 0 cache 0 39 130 kept 65"}, f"1 not legal: cache 0 39 number 130: {HISTORY}"),
+    # as many bytes, and another number of roots in the last of its 60 lines
+    ("smallest", {"end roots 1 live 0": "end roots 2 live 0"}, f"8 refused text line 60: {FORM}"),
+    # a note too few: at the end of a command, of the closing; no closing
     ("smallest", {"note 0 bin 0 2 home 0\n": ""}, f"1 not legal: 0.3: {ANSWERS}"),
     ("smallest", {"note 0 cache 0 39 1 close 0\n": ""}, f"1 not legal: 0.4: {ANSWERS}"),
+    ("smallest", {CLOSING: ""}, f"1 not legal: 0.4: {ANSWERS}"),
     # a region and a root of which no note tells any more: the first line that names one cannot be read
     (
         "smallest",
@@ -131,6 +153,15 @@ MADE = [
         "1 not legal: root 0.1: its counts over all lanes do not add up",
     ),
 ]
+
+# A trace, and what is changed in its text: lane 1 retains and releases before it sends, so lane 0, which receives what was sent, finds two
+# counts. Three could be there, but not behind that; no two of these notes say so, so it is no circle. Lane 0 stops behind its fetch, its eighth note.
+LOOKS = (
+    '[[["alloc","a",24],["retain","a"],["send","a",1],["recv","y",1],["refcnt","a"],["release","a"],["send","none",1]],'
+    '[["recv","x",0],["retain","x"],["release","x"],["send","none",0],["recv","w",0],["release","x"]]]',
+    {"0.4 refcnt ok 2": "0.4 refcnt ok 3", "ref 0.1 look 2": "ref 0.1 look 3"},
+    "7 undecided: no circle of notes, but behind these no lane can go on, of which the last is; lane 0 after 7 notes",
+)
 
 
 # a note at an object: which object of which kind, its number, and what was done

@@ -3,9 +3,9 @@ import os
 
 from drawing import try_view
 from framing import try_frames
-from judging import EXCHANGED, JUDGED, MADE, exchanged, numbered
+from judging import EXCHANGED, JUDGED, LOOKS, MADE, exchanged, numbered
 from trying import ACCEPTED, HERE, LINTED, LIVE, READ_FAULT, REFUSED, TERMINALS, TEXT_LIMIT, UNREAD, WHOLE, WRITE_FAULT
-from trying import broken_off, case_of, cut_off, expect, json_of, rows, run, text_and_line, try_ends
+from trying import broken_off, case_of, case_with, cut_off, expect, json_of, rows, run, text_and_line, try_ends
 
 CRATES = f"{HERE}/../crates"
 CALL_LIMIT = 4096
@@ -82,6 +82,8 @@ def try_shares(share):
         expect(f"share_run < {size}", ran=(run(share, [], share_of(*shared(size))), (WHOLE, seen_of(*shared(size)), "")))
     refused = [share_of(*shared(size)) for size in TOO_MUCH]
     read = b'{"composites":[["7f"]],"reads":[[0]]}'
+    text = b'\n{ "composites" : [ [ "00" ] ] ,\n "reads" : [ [ 0 ] ] }\n'
+    expect(f"share_run < {text}", ran=(run(share, [], text), (WHOLE, "0.0 0 00\ncomposite 0 released 1\nend live 0\n", "")))
     for text in [*refused, read.ljust(TEXT_LIMIT + 1), b'{"composites":[["\xff"]],"reads":[[]]}']:
         expect(f"share_run < {text[:200]}", ran=(run(share, [], text), (REFUSED, "", "refused input\n")))
     text = "0.0 0 7f\ncomposite 0 released 1\nend live 0\n"
@@ -97,6 +99,8 @@ def try_judge(judge, poolrun):
     for trace, changes, want in MADE:
         made = case_of(poolrun, "smallest", changes)
         cases.append((f"{trace} {changes}", {**made, "trace": trace}, want))
+    trace, changes, want = LOOKS
+    cases.append((trace, case_with(poolrun, ["--history"], trace, changes), want))
     for name in ("smallest", "hand_over"):
         case = case_of(poolrun, name, {})
         cases += [(f"{name}, {what}", {**case, "text": text}, want) for what, text, want in numbered(case["text"])]

@@ -88,6 +88,11 @@ def case_of(poolrun, name, changes):
     words = words_of(name)
     with open(f"{HERE}/{name}.json", encoding="utf-8") as it:
         trace = it.read()
+    return case_with(poolrun, words, trace, changes)
+
+
+def case_with(poolrun, words, trace, changes):
+    """The same of any words and trace."""
     text = run(poolrun, words, trace.encode())[1]
     for old, new in changes.items():
         assert text.count(old) == 1, old
@@ -170,4 +175,5 @@ LINTED = [
 ]
 
 # Texts that are traces.
-ACCEPTED = [b"[[]]", b"[[" + b'["touch","a"],\n' * (COMMANDS - 1) + b'["touch","b"]], []]', b"[[]]\n".ljust(TEXT_LIMIT)]
+OPTIONS = b'"page":4096,"order":3,"arenas":8,"chunks":8,"handles":4096,"level":"paranoid","interval":65536'
+ACCEPTED = [b"[[]]", b'{"options":{' + OPTIONS + b'},"lanes":[[]],"version":2}', b"[[" + b'["touch","a"],\n' * (COMMANDS - 1) + b'["touch","b"]], []]', b"[[]]\n".ljust(TEXT_LIMIT)]
