@@ -225,7 +225,7 @@ pub(crate) fn stepped_out<R: Abort>(rt: &R, pool: &SharedPool, mut core: Core) -
 }
 
 // Closes a pool of which no root is live.
-pub(crate) fn close<R: Abort>(
+pub(crate) fn close<R: Abort + Wait>(
     rt: &R,
     alloc: Global,
     pool: SharedPool,
@@ -241,7 +241,7 @@ pub(crate) fn close<R: Abort>(
     is_of(rt, &second, 1);
     spare.push_reserved(first);
     spare.push_reserved(second);
-    match pool.close(alloc, spare) {
+    match pool.close(rt, alloc, spare) {
         Ok(end) => assert!(rt; end.live.items().len() == 0),
         Err((pool, seats)) => pool.abandon(seats),
     }

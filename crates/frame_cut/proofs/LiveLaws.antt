@@ -1,10 +1,9 @@
 -- Where each seat counts nothing, and each parcel that was posted was fetched, no root is live at the close.
-use Rattle.std.proofs.Common.{◌≡◌, ℕ, zero, suc, ◌+◌, ◌<◌, Bool, true, false, List, [], ◌∷◌, ◌++◌, length, map, refl, ap, ◌∙◌, subst, arith, cond, Some, None, inl, inr, eqb-true, length-append}
-use Rattle.std.specs.Prelude.{◌&&◌, ◌==◌, if◌then◌else◌, not, Option, sum_by, slice_get}
+use Rattle.std.proofs.Common.{◌≡◌, ℕ, zero, suc, ◌+◌, ◌<◌, Bool, true, List, [], ◌∷◌, ◌++◌, length, map, refl, ap, ◌∙◌, subst, arith, Some, None, inl, inr, eqb-true, length-append}
+use Rattle.std.specs.Prelude.{◌==◌, if◌then◌else◌, not, Option, slice_get}
 use Rattle.std.specs.List.{list_all}
 use Rattle.std.proofs.lemmas.Bool.{cases_lt}
 use Rattle.std.proofs.lemmas.List.{drop_all}
-use Rattle.std.proofs.lemmas.List.Sums.{sum_by-cons}
 use Rattle.std.proofs.lemmas.Option.{get_or_from_slice_get, slice_get_within}
 use Rattle.size_classes.specs.Sizes.{below}
 use Rattle.pool_law.specs.declared.id.RootId.{RootId}
@@ -15,7 +14,6 @@ use Rattle.pool_law.specs.declared.note.Did.TheVariants.{Post, Fetch}
 use Rattle.pool_law.specs.declared.note.Note.{Note}
 use Rattle.pool_law.specs.declared.note.Object.{Object}
 use Rattle.pool_law.specs.declared.note.Object.TheVariants.{Mail}
-use Rattle.pool_law.specs.declared.note.RefDid.TheVariants.{Born, Retain, Kept, Ended, Vacated, Look}
 use Rattle.pool_law.specs.declared.run.Shape.{Shape}
 use Rattle.pool_law.specs.Counts.{TotalHolds, count_in, count_over, is_born, is_release, is_retain, total_of, view_is_of}
 use Rattle.pool_law.specs.Kinds.{passing}
@@ -26,9 +24,7 @@ use Rattle.pool_law.proofs.PatternLemmas.{same_object-refl}
 use Rattle.history_laws.specs.NoteCounts.{did_fetch_of, did_post_of, view_of_root}
 use Rattle.pool_table.specs.declared.views.Entry.{Entry}
 use Rattle.pool_table.specs.declared.views.Entry.TheVariants.{At, Ref, Busy}
-use Rattle.pool_table.specs.declared.views.Part.{Part}
-use Rattle.pool_table.specs.declared.views.SeatView.{SeatView}
-use Rattle.pool_table.specs.Counts.{fetches, on_this, posts, ref_gain, ref_loss, weigh}
+use Rattle.pool_table.specs.Counts.{fetches, on_this, posts, ref_gain, ref_loss}
 use Rattle.run_laws.specs.CountLaw.{is_fetched, is_posted}
 use Rattle.run_laws.specs.Parcels.{PostsWithin, parcels_of, sum_up, unfetched, unfetched_of}
 use Rattle.run_laws.proofs.LogEntries.{log-past}
@@ -39,59 +35,13 @@ use Rattle.shared_pool.specs.declared.seat.PoolSeat.{PoolSeat}
 use Rattle.shared_pool.specs.Closing.{AreWhole, entries_in, entry_of, logs_in}
 use Rattle.shared_pool.specs.Seated.{AreDone, parts_in}
 use Rattle.shared_pool.specs.SeatViews.{view_of}
+use Rattle.seat_work.proofs.NotedCounts.{counted, gains, losses, one, same_one}
+use Rattle.seat_work.proofs.Grown.{weigh_own}
 use Rattle.frame_hash.specs.Takes.{CountsNone}
 use Rattle.frame_cut.specs.Closed.{AllFetched, AreSpent, NoneIsLive}
 use Rattle.frame_cut.proofs.SeatLogs.{notes_of}
 
 -- ---- One entry.
-
-abbrev one : Bool → ℕ
-one b = if b then 1 else 0
-
-first_one : (b : Bool) → one b + 0 ≡ cond {A = ℕ} b 1 0
-first_one true = refl
-first_one false = refl
-
-second_one : (b : Bool) → 0 + one b ≡ cond {A = ℕ} b 1 0
-second_one true = refl
-second_one false = refl
-
-same_one : (b : Bool) → one b ≡ cond {A = ℕ} b 1 0
-same_one true = refl
-same_one false = refl
-
-no_one : (b : Bool) → ◌≡◌ {A = ℕ} 0 (cond {A = ℕ} b 0 0)
-no_one true = refl
-no_one false = refl
-
-and_true : (b : Bool) → one (b && true) ≡ cond {A = ℕ} b 1 0
-and_true true = refl
-and_true false = refl
-
-and_false : (b : Bool) → one (b && false) ≡ cond {A = ℕ} b 0 0
-and_false true = refl
-and_false false = refl
-
-gain_entry : (r : RootId) (e : Entry)
-    → one (is_born r (entry_of e).note) + one (is_retain r (entry_of e).note) ≡ on_this ref_gain r e
-gain_entry r (At o k n) = refl
-gain_entry r (Busy b) = refl
-gain_entry r (Ref q Born) = first_one (same_root q r)
-gain_entry r (Ref q Retain) = second_one (same_root q r)
-gain_entry r (Ref q Kept) = no_one (same_root q r)
-gain_entry r (Ref q Ended) = no_one (same_root q r)
-gain_entry r (Ref q Vacated) = no_one (same_root q r)
-gain_entry r (Ref q (Look found)) = no_one (same_root q r)
-
-loss_entry : (r : RootId) (e : Entry) → one (is_release r (entry_of e).note) ≡ on_this ref_loss r e
-loss_entry r (At o k n) = refl
-loss_entry r (Busy b) = refl
-loss_entry r (Ref q Born) = and_false (same_root q r)
-loss_entry r (Ref q Retain) = and_false (same_root q r)
-loss_entry r (Ref q Kept) = and_true (same_root q r)
-loss_entry r (Ref q Ended) = and_true (same_root q r)
-loss_entry r (Ref q Vacated) = and_false (same_root q r)
-loss_entry r (Ref q (Look found)) = and_false (same_root q r)
 
 view_one : (r : RootId) (v : Option ViewData) → one (view_is_of r v) ≡ view_of_root r v
 view_one r None = refl
@@ -117,28 +67,6 @@ post_entry r (Busy b) = refl
 
 -- ---- One seat.
 
-gains : (r : RootId) (es : List Entry)
-    → count_in (is_born r) (map entry_of es) + count_in (is_retain r) (map entry_of es)
-    ≡ sum_by (on_this ref_gain r) es
-gains r [] = refl
-gains r (e ∷ es) =
-    let a = sum_by-cons (on_this ref_gain r) e es in let b = gain_entry r e in let c = gains r es in
-    omega (arith, a, b, c)
-
--- a test of notes, where it is 1 for just what weighs 1
-counted : (test : Note → Bool) (f : Entry → ℕ) → ((e : Entry) → one (test (entry_of e).note) ≡ f e)
-    → (es : List Entry) → count_in test (map entry_of es) ≡ sum_by f es
-counted test f each [] = refl
-counted test f each (e ∷ es) =
-    let a = sum_by-cons f e es in let b = each e in let c = counted test f each es in omega (arith, a, b, c)
-
--- a view with one part weighs what that part weighs
-weigh_alone : (f : Entry → ℕ) (v : SeatView) → v.others ≡ [] → weigh f v ≡ sum_by f v.own.notes
-weigh_alone f v alone =
-    let g : Part → ℕ = λ (p : Part). sum_by f p.notes in
-    let a : weigh f v ≡ g v.own + sum_by g v.others = sum_by-cons g v.own v.others in
-    let b : sum_by g v.others ≡ 0 = ap (λ (ps : List Part). sum_by g ps) alone in omega (arith, a, b)
-
 -- it gained what it lost
 abbrev IsEven : RootId → PoolSeat → Type 0
 IsEven r s =
@@ -150,11 +78,11 @@ even : (s : PoolSeat) → (view_of s).others ≡ [] → CountsNone (view_of s) �
 even s alone none r =
     let v = view_of s in
     let a = gains r v.own.notes in
-    let b = counted (is_release r) (on_this ref_loss r) (loss_entry r) v.own.notes in
+    let b = losses r v.own.notes in
     let c = counted (is_fetched r) (fetches r) (fetch_entry r) v.own.notes in
     let d = counted (is_posted r) (posts r) (post_entry r) v.own.notes in
-    let e = weigh_alone (on_this ref_gain r) v alone in let f = weigh_alone (on_this ref_loss r) v alone in
-    let g = weigh_alone (fetches r) v alone in let h = weigh_alone (posts r) v alone in
+    let e = weigh_own (on_this ref_gain r) v alone in let f = weigh_own (on_this ref_loss r) v alone in
+    let g = weigh_own (fetches r) v alone in let h = weigh_own (posts r) v alone in
     let k = none r in
     omega (arith, a, b, c, d, e, f, g, h, k)
 

@@ -1,9 +1,10 @@
 -- What each status says of the words; and turned round, when a text must be written and a stream refused.
 use Rattle.std.proofs.Common.{◌≡◌, ℕ, List, ◌++◌, length, refl, ap, sym, subst, ◌∙◌, Some, None, inl, inr, append-nil}
 use Rattle.std.specs.Prelude.{◌⊎◌, Option}
-use Rattle.std.specs.Io.KnownBytes.{Consumes, IsAtEnd, Keeps}
+use Rattle.std.specs.Io.KnownBytes.{Consumes, IsAtEnd}
 use Rattle.text_ends.specs.Ends.{Rose}
 use Rattle.text_ends.specs.Spans.{SourceSpan, SinkSpan, IsTaken}
+use Rattle.text_ends.proofs.Readings.{kept_as_is}
 use Rattle.frame_core.specs.declared.frame.FrameNo.{FrameNo}
 use Rattle.frame_core.specs.declared.frame.FrameNo.TheVariants.{Length, Frames, Stream, Inside}
 use Rattle.frame_core.specs.Frames.{failure_of, frames_of, refusal}
@@ -27,10 +28,6 @@ of_stream statuses.Input o words src out options form e = (options, (form, e))
 of_stream statuses.ReadFault o words src out options form e = (options, (form, e))
 of_stream statuses.WriteFault o words src out options form e = (options, (form, e))
 of_stream statuses.Memory o words src out options form e = (options, (form, e))
-
-kept_as_is : (bytes : Option (List ℕ)) → Keeps bytes bytes
-kept_as_is None = tt
-kept_as_is (Some xs) = refl
 
 -- words without a form, beside ends that weren't called
 pub without_form : (o : Outcome) (words : List (List ℕ)) (left got : Option (List ℕ)) (n m k : ℕ)

@@ -12,6 +12,7 @@ use frame_hash::{HashOf, Worker};
 use job_queue::{JobEnd, JobQueue, reunite};
 use shared_pool::{PoolSeat, SharedPool};
 use std::alloc::{AllocError, Global};
+use std::sync::Wait;
 
 /// What a stream came to, and what each worker told of its frames.
 #[derive(Drop)]
@@ -92,13 +93,18 @@ fn parts(worker: Worker) -> (PoolSeat, JobEnd, Vec<HashOf>)
 }
 
 /// Closes the pool, in which no root is live: no seat counts one, and no parcel is left.
-pub fn close(alloc: Global, pool: SharedPool, seats: Vec<PoolSeat>) -> Result<(), AllocError>
+pub fn close<W: Wait>(
+    rt: &W,
+    alloc: Global,
+    pool: SharedPool,
+    seats: Vec<PoolSeat>,
+) -> Result<(), AllocError>
     requires done { AreDone pool seats.items }
     requires spent { AreSpent seats.items }
     ensures whole { OnOk result (AreWhole pool.table.layout.shape (parts_in seats.items)) }
     ensures live { OnOk result (NoneIsLive (parts_in seats.items)) }
 {
-    match pool.close(alloc, seats) {
+    match pool.close(rt, alloc, seats) {
         Ok(_end) => Ok(()),
         Err((pool, seats)) => {
             pool.abandon(seats);

@@ -54,7 +54,7 @@ pub fn hash_stream<R: Threads + Wait + Sync, S: Source>(
     };
     let (desk, workers, ended) = step_all(rt, alloc, &shop, source, desk, workers);
     let told = gather(&queues, workers, desk, &mut seats, told);
-    let closed = close_or_abandon(alloc, pool, seats, ended);
+    let closed = close_or_abandon(rt, alloc, pool, seats, ended);
     told_or_none(told, closed)
 }
 
@@ -88,7 +88,8 @@ fn step_all<R: Threads + Wait + Sync, S: Source>(
 }
 
 // Closes the pool where all have finished. Else its memory stays taken.
-fn close_or_abandon(
+fn close_or_abandon<W: Wait>(
+    rt: &W,
     alloc: Global,
     pool: SharedPool,
     seats: Vec<PoolSeat>,
@@ -102,7 +103,7 @@ fn close_or_abandon(
     ensures live { OnOk result (NoneIsLive (parts_in seats.items)) }
 {
     match ended {
-        Ok(()) => close(alloc, pool, seats),
+        Ok(()) => close(rt, alloc, pool, seats),
         Err(AllocError) => {
             pool.abandon(seats);
             Err(AllocError)

@@ -123,7 +123,7 @@ fn stepped_out(
 }
 
 // The run of the one lane, which has finished.
-fn end(alloc: Global, pool: SharedPool, lane: Lane) -> Result<Played, AllocError>
+fn end(rt: &impl Wait, alloc: Global, pool: SharedPool, lane: Lane) -> Result<Played, AllocError>
     requires shape { LAYOUT.shape ≡ pool.table.layout.shape }
     requires lane { IsLane pool lane }
     requires number { number_of lane ≡ 0 }
@@ -134,7 +134,7 @@ fn end(alloc: Global, pool: SharedPool, lane: Lane) -> Result<Played, AllocError
         return Err(AllocError);
     };
     lanes.push_reserved(lane);
-    finish(alloc, pool, &LAYOUT.shape, lanes)
+    finish(rt, alloc, pool, &LAYOUT.shape, lanes)
 }
 
 // The run of a new lane with these commands under a gate, and how many steps went.
@@ -151,7 +151,7 @@ fn play(
 {
     let Begun { pool, mut lane } = begin(alloc, commands)?;
     match stepped_out(rt, alloc, &pool, &mut lane, gate) {
-        Ok(steps) => Ok((steps, end(alloc, pool, lane)?)),
+        Ok(steps) => Ok((steps, end(rt, alloc, pool, lane)?)),
         Err(AllocError) => {
             leave(pool, lane.abandon());
             Err(AllocError)

@@ -47,6 +47,13 @@ use Rattle.lane_core.proofs.StageTurns.{Staged, staged_counts, staged_names}
 use Rattle.lane_core.proofs.AllotTurns.{allotted}
 use Rattle.lane_core.proofs.StageNeeds.{answers_behind}
 
+-- the context behind a step, with the count that was kept before
+pub counted_so : (old : Context) (seat : _) (sampler : _) (notes : _) (m n : ℕ) → m ≡ n
+    → record old { seat = seat; sampler = sampler; notes = notes; asked = m }
+    ≡ record old { seat = seat; sampler = sampler; notes = notes; asked = n }
+counted_so old seat sampler notes m n is =
+    ap (λ (k : ℕ). record old { seat = seat; sampler = sampler; notes = notes; asked = k }) is
+
 -- a step of an allocation, and the context behind it
 module _ (pool : SharedPool) (old mid : Context) (name size class : ℕ) (stage : AllotStage)
     (d : IsContext pool (allotment.hand_of stage) old) (class_is : class_of (geometry_of old.shape) size ≡ Some class)

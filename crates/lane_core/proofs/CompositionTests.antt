@@ -2,7 +2,7 @@
 use Rattle.std.proofs.Common.{◌≡◌, ℕ, suc, ◌<◌, Bool, true, false, List, [], ◌∷◌, ◌++◌, length, refl, sym, ap, ◌∙◌, arith, Option, Some, None, le-leb, leb-true}
 use Rattle.std.specs.Prelude.{All, ⊤, IsTrue, ◌↔◌, if◌then◌else◌, not, ◌&&◌, nat_le, is_none, is_some}
 use Rattle.std.specs.List.{list_any, list_all}
-use Rattle.std.proofs.lemmas.Bool.{false≢true}
+use Rattle.std.proofs.lemmas.Bool.{and_parts, false≢true}
 use Rattle.std.proofs.lemmas.List.Elements.{All-nil, All-cons, All-head, All-tail, All-same}
 use Rattle.pool_law.specs.declared.id.Part.{Part}
 use Rattle.pool_law.specs.declared.id.ViewData.{ViewData}
@@ -21,10 +21,6 @@ use Rattle.lane_core.proofs.RefusalLists.{each, first_refusal-append, first_of_e
 not_false : (b : Bool) → not b ≡ false → b ≡ true
 not_false true is = refl
 not_false false is = absurd (cc is)
-
-both_true : (a b : Bool) → (a && b) ≡ true → (a ≡ true) × (b ≡ true)
-both_true true b is = (refl, is)
-both_true false b is = absurd (cc is)
 
 -- ---- Names that are bound to views whose roots are counted.
 
@@ -157,7 +153,7 @@ all_counted : (cs : List Counted) (parts : List Part) → list_all (λ p. counts
     → All (λ p. 0 < counted cs p.root) parts
 all_counted cs [] is = All-nil (λ (p : Part). 0 < counted cs p.root)
 all_counted cs (p ∷ ps) is =
-    let two = both_true (counts_in cs p.root) (list_all (λ q. counts_in cs q.root) ps) is in
+    let two = and_parts (counts_in cs p.root) (list_all (λ q. counts_in cs q.root) ps) is in
     let lt = leb-true 1 (counted cs p.root) two.0 in
     All-cons (λ q. 0 < counted cs q.root) p ps (omega (arith, lt)) (all_counted cs ps two.1)
 
@@ -183,7 +179,7 @@ usable_so cs c r says = go r (is_usable (counts_in cs) (Composed c)) refl says
         ∙ is
     go false false is says = refl
     go false true is says =
-        let two = both_true (nat_le 1 c.count) (list_all (λ p. counts_in cs p.root) c.parts) is in
+        let two = and_parts (nat_le 1 c.count) (list_all (λ p. counts_in cs p.root) c.parts) is in
         let some = leb-true 1 c.count two.0 in
         absurd (false≢true (says.1 (record { count = omega (arith, some); parts = all_counted cs c.parts two.1 })))
 
@@ -194,7 +190,7 @@ whole_by cs None bound composite legal = absurd (cc bound)
 whole_by cs (Some (Plain v)) bound composite legal = absurd (cc composite)
 whole_by cs (Some (Composed c)) bound composite legal =
     let usable =
-    both_true (nat_le 1 c.count) (list_all (λ p. counts_in cs p.root) c.parts)
+    and_parts (nat_le 1 c.count) (list_all (λ p. counts_in cs p.root) c.parts)
     (not_false (is_usable (counts_in cs) (Composed c)) legal) in
     (c, refl, all_counted cs c.parts usable.1)
 

@@ -1,19 +1,15 @@
 -- What a lane counts, where it counts nothing, and once the count at a place has changed.
-use Rattle.std.proofs.Common.{◌≡◌, ◌≢◌, ℕ, zero, suc, ◌+◌, ◌<◌, Bool, true, false, List, [], ◌∷◌, length, refl, sym, ap, ◌∙◌, subst, ⊎_elim, arith, Some, ne_eqb}
-use Rattle.std.specs.Prelude.{◌==◌, if◌then◌else◌, slice_get, slice_set, All}
-use Rattle.std.proofs.lemmas.Bool.{cases_eq, cases_Bool, both_ways, and_left}
+use Rattle.std.proofs.Common.{◌≡◌, ◌≢◌, ℕ, zero, suc, ◌+◌, ◌<◌, Bool, true, false, List, [], ◌∷◌, length, refl, ap, ◌∙◌, subst, ⊎_elim, arith, Some}
+use Rattle.std.specs.Prelude.{if◌then◌else◌, slice_get, slice_set, All}
+use Rattle.std.proofs.lemmas.Bool.{cases_eq, cases_Bool}
 use Rattle.pool_law.specs.declared.id.RootId.{RootId}
 use Rattle.pool_law.specs.Same.{same_root}
 use Rattle.pool_law.proofs.ListLemmas.{slice_get-set_same, slice_get-set_other, slice_get-below}
 use Rattle.pool_law.proofs.SameLemmas.{same_root-is}
-use Rattle.pool_law.proofs.PatternLemmas.{same_root-refl}
 use Rattle.lane_core.specs.declared.counts.Counted.{Counted}
 use Rattle.seat_work.specs.Changes.{one_for}
+use Rattle.seat_work.proofs.Counting.{zero_if, other_place, other_root}
 use Rattle.lane_core.specs.Counting.{if_counted, counted}
-
-zero_if : (b : Bool) (n : ℕ) → n ≡ 0 → (if b then n else 0) ≡ 0
-zero_if true n e = e
-zero_if false n e = refl
 
 none_at : (cs : List Counted) (n : ℕ) (root : RootId) → All (λ c. c.count ≡ 0) cs → if_counted (slice_get cs n) root ≡ 0
 none_at [] n root all = refl
@@ -31,14 +27,6 @@ within_by (c ∷ cs) (suc n) root lt = let ih : n < length cs = within_by cs n r
 
 pub counted_within : (cs : List Counted) (root : RootId) → 0 < counted cs root → root.place < length cs
 counted_within cs root lt = within_by cs root.place root lt
-
--- of two roots at different places at most one is this one
-other_place : (root other : RootId) → other.place ≢ root.place → same_root root other ≡ false
-other_place root other ne = and_left (root.place == other.place) _ (ne_eqb root.place other.place (λ e. ne (sym e)))
-
-other_root : (root other : RootId) → same_root root other ≡ false → other ≢ root
-other_root root other differs e =
-    both_ways (same_root root other) differs (subst (λ r. same_root root r ≡ true) (sym e) (same_root-refl root))
 
 module _ (cs : List Counted) (root : RootId) (c : Counted) (at : slice_get cs root.place ≡ Some c) where
   within : root.place < length cs

@@ -55,23 +55,6 @@ map-same f g [] h = refl
 map-same f g (x ∷ xs) h =
     ap (λ y. y ∷ map f xs) (h 0 x refl) ∙ ap (λ t. g x ∷ t) (map-same f g xs (λ k y e. h (suc k) y e))
 
-pub get-map : {X Y : Type 0} (f : X → Y) (xs : List X) (k : ℕ) (x : X) → slice_get xs k ≡ Some x
-    → slice_get (map f xs) k ≡ Some (f x)
-get-map f [] k x e = absurd (cc e)
-get-map f (y ∷ ys) zero x e = let same : y ≡ x = cc e in ap (λ z. Some (f z)) same
-get-map f (y ∷ ys) (suc k) x e = get-map f ys k x e
-
-pub map-get : {X Y : Type 0} (f : X → Y) (xs : List X) (k : ℕ) (y : Y) → slice_get (map f xs) k ≡ Some y
-    → (x : X) × (slice_get xs k ≡ Some x) × (f x ≡ y)
-map-get f [] k y e = absurd (cc e)
-map-get f (x ∷ xs) zero y e = (x, refl, cc e)
-map-get f (x ∷ xs) (suc k) y e = map-get f xs k y e
-
-pub get-below : {X : Type 0} (xs : List X) (k : ℕ) (x : X) → slice_get xs k ≡ Some x → k < length xs
-get-below [] k x e = absurd (cc e)
-get-below (y ∷ ys) zero x e = omega arith
-get-below (y ∷ ys) (suc k) x e = let ih : k < length ys = get-below ys k x e in omega arith
-
 pub log-at : {X Y : Type 0} (f : X → List Y) (xs : List X) (k : ℕ) (x : X) → slice_get xs k ≡ Some x
     → of_lane (map f xs) k ≡ f x
 log-at f [] k x e = absurd (cc e)

@@ -5,6 +5,7 @@ use Rattle.pool_law.specs.declared.run.Run.{Run}
 use Rattle.pool_law.specs.declared.run.Shape.{Shape}
 use Rattle.pool_law.specs.Legal.{logs_of, replies_of}
 use Rattle.pool_law.specs.Logs.{of_lane}
+use Rattle.pool_law.proofs.ListLemmas.{slice_get-below}
 use Rattle.pool_table.specs.declared.views.Part.{Part}
 use Rattle.shared_pool.specs.SeatViews.{view_of}
 use Rattle.shared_pool.specs.declared.pool.SharedPool.{SharedPool}
@@ -14,7 +15,7 @@ use Rattle.lane_core.specs.declared.lane.Lane.{Lane}
 use Rattle.lane_core.specs.Contexts.{entries_of}
 use Rattle.lane_core.specs.Played.{IsFinishedLane, AreFinished, IsRunOf, log_written}
 use Rattle.lane_core.proofs.EitherLane.{lane_context}
-use Rattle.lane_core.proofs.PlayedLists.{length-map, map-map, map-same, get-below, log-at}
+use Rattle.lane_core.proofs.PlayedLists.{length-map, map-map, map-same, log-at}
 use Rattle.lane_core.proofs.PlayedSeats.{lane-at}
 
 -- the parts of the lanes' seats
@@ -31,7 +32,7 @@ module _ (pool : SharedPool) (lanes : List Lane) (fin : AreFinished pool lanes) 
   -- a lane that stands in the list has finished
   pub finished-at : (k : ℕ) (l : Lane) → slice_get lanes k ≡ Some l → IsFinishedLane pool k l
   finished-at k l e =
-      let at = lane-at pool lanes fin k (omega (arith, get-below lanes k l e, fin.many)) in
+      let at = lane-at pool lanes fin k (omega (arith, slice_get-below lanes k l e, fin.many)) in
       let same : at.0 ≡ l = cc (at.1, e) in
       subst (IsFinishedLane pool k) same at.2
 

@@ -1,8 +1,10 @@
 -- Leaks in order: lists of the same leaks, by lane and serial and none twice, are the same.
 use Rattle.std.proofs.Common.{⊎_elim, inl, inr, ◌≡◌, ℕ, zero, suc, ◌<◌, ◌≤◌, List, [], ◌∷◌, ◌++◌, length, refl, sym, ap, subst, arith, Some, ◌∙◌}
 use Rattle.std.specs.Prelude.{◌⊎◌, AllPairs, slice_get, slice_index_or}
+use Rattle.std.proofs.lemmas.Bool.{cases_lt}
 use Rattle.pool_law.specs.declared.report.Leak.{Leak}
 use Rattle.leak_records.specs.Reports.{IsNotAfter}
+use Rattle.shared_pool.proofs.ClosingHistories.{pairs_tail}
 
 -- an item of a list
 abbrev pub In : {X : Type 0} → X → List X → Type 0
@@ -88,22 +90,11 @@ index-of [] k x d e = absurd (cc e)
 index-of (y ∷ ys) zero x d e = (cc e, omega arith)
 index-of (y ∷ ys) (suc k) x d e = let i = index-of ys k x d e in (i.0, omega (arith, i.1))
 
-pub get-of : {X : Type 0} (xs : List X) (k : ℕ) → k < length xs → (x : X) × (slice_get xs k ≡ Some x)
-get-of [] k lt = absurd (omega arith)
-get-of (y ∷ ys) zero lt = (y, refl)
-get-of (y ∷ ys) (suc k) lt = get-of ys k (omega arith)
-
 pub pair-of : {X : Type 0} (R : X → X → Type 0) (xs : List X) (i j : ℕ) (x y : X) → AllPairs R xs
     → slice_get xs i ≡ Some x → slice_get xs j ≡ Some y → i < j → R x y
 pair-of R xs i j x y all a b lt =
     subst (λ z. R z y) (index-of xs i x x a).0
     (subst (R (slice_index_or xs i x)) (index-of xs j y x b).0 (all i j x lt (index-of xs j y x b).1))
-
-pub pairs-rest : {X : Type 0} (R : X → X → Type 0) (x : X) (xs : List X) → AllPairs R (x ∷ xs) → AllPairs R xs
-pairs-rest R x xs all i j d lt end = all (suc i) (suc j) d (omega arith) (omega arith)
-
-pub below-or : (a b : ℕ) → (a < b) ⊎ (b ≤ a)
-below-or a b = grind arith
 
 -- two leaks of one lane and serial stand at one place
 abbrev pub OnceEach : List Leak → Type 0
@@ -115,7 +106,7 @@ pub ascends : (xs : List Leak) → AllPairs IsNotAfter xs → OnceEach xs → As
 ascends [] all once = tt
 ascends (x ∷ xs) all once = (
   first,
-  ascends xs (pairs-rest IsNotAfter x xs all)
+  ascends xs (pairs_tail IsNotAfter x xs all)
       (λ i j y z a b l s. omega (arith, once (suc i) (suc j) y z a b l s)),
 )
   where
@@ -126,5 +117,5 @@ ascends (x ∷ xs) all once = (
         ⊎_elim (λ (lt : x.serial < y.serial). inr (m.0, lt))
         (λ (same : y.serial ≤ x.serial). absurd
         (omega (arith, once 0 (suc k) x y refl e m.0 (omega (arith, m.1, same)))))
-        (below-or x.serial y.serial))
+        (cases_lt x.serial y.serial))
         (pair-of IsNotAfter (x ∷ xs) 0 (suc k) x y all refl e (omega arith))

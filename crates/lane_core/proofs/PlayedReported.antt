@@ -3,6 +3,7 @@ use Rattle.std.proofs.Common.{⊎_elim, eqb-true, eq-eqb, ◌≡◌, ℕ, zero, 
 use Rattle.std.specs.Prelude.{◌==◌, ◌&&◌, if◌then◌else◌, map, sum_by, Contains, IsPermutation, Option, slice_get}
 use Rattle.std.proofs.lemmas.List.Sums.{sum_by-cons}
 use Rattle.std.proofs.lemmas.List.Sorted.{IsPermutation-sym, Contains-permutation, sum_by-IsPermutation}
+use Rattle.std.proofs.lemmas.Bool.{cases_lt}
 use Rattle.pool_law.specs.declared.id.RootId.{RootId}
 use Rattle.pool_law.specs.declared.note.Did.TheVariants.{Birth}
 use Rattle.pool_law.specs.declared.note.Note.{Note}
@@ -23,9 +24,11 @@ use Rattle.pool_table.specs.declared.views.Entry.TheVariants.{At}
 use Rattle.pool_table.specs.declared.views.Part.{Part}
 use Rattle.shared_pool.specs.Closing.{logs_in, entries_in, note_of}
 use Rattle.shared_pool.specs.Live.{WasWatched, IsLive, live_of, AreLiveRoots}
+use Rattle.shared_pool.proofs.Openings.{map_at, there_at}
+use Rattle.shared_pool.proofs.ClosingWhole.{in_map}
 use Rattle.lane_core.specs.Sampled.{AreSampled}
-use Rattle.lane_core.proofs.PlayedLists.{get-map, map-get, map-map, log-at}
-use Rattle.lane_core.proofs.PlayedReport.{In, same-leaks, index-of, get-of, pair-of, OnceEach, below-or, ascends}
+use Rattle.lane_core.proofs.PlayedLists.{map-map, log-at}
+use Rattle.lane_core.proofs.PlayedReport.{In, same-leaks, index-of, pair-of, OnceEach, ascends}
 use Rattle.lane_core.proofs.PlayedBirths.{sampler_at, index-of_birth, birth-of_index}
 use Rattle.lane_core.proofs.PlacedBirths.{birth-placed}
 use Rattle.lane_core.proofs.PlayedLeaks.{lane-has, lanes-have, in-lanes, lanes-ascend}
@@ -102,8 +105,8 @@ once-permuted : (xs ys : List Leak) → IsPermutation xs ys → OnceEach xs → 
 once-permuted xs ys same once i j x y a b l s =
     ⊎_elim (λ (lt : i < j). absurd (twice i j x y a b lt l s))
     (λ (ge : j ≤ i). ⊎_elim (λ (lt : j < i). absurd (twice j i y x b a lt (sym l) (sym s)))
-    (λ (le : i ≤ j). omega (arith, ge, le)) (below-or j i))
-    (below-or i j)
+    (λ (le : i ≤ j). omega (arith, ge, le)) (cases_lt j i))
+    (cases_lt i j)
   where
     twice : (i j : ℕ) (x y : Leak) → slice_get ys i ≡ Some x → slice_get ys j ≡ Some y → i < j → x.lane ≡ y.lane
         → x.serial ≡ y.serial → ⊥
@@ -118,7 +121,7 @@ once-permuted xs ys same once i j x y a b l s =
 
 contains-in : {X : Type 0} (xs : List X) (x : X) → Contains xs x → In x xs
 contains-in xs x c =
-    let g = get-of xs c.0 c.1 in
+    let g = there_at xs c.0 c.1 in
     let same : g.0 ≡ x = sym (index-of xs c.0 g.0 x g.1).0 ∙ c.2 in
     (c.0, g.1 ∙ ap Some same)
 
@@ -201,7 +204,7 @@ module _ (shape : Shape) (parts : List Part) (hold : HistoriesHold shape (logs_i
       (sym (ap (λ ns. slice_get (births ns) nth) (log-is lane p.0 p.1)) ∙ e) in
       let noted : slice_get (of_lane logs lane) b.at ≡ Some (Note.At b.object b.number (Birth root b.region)) =
       ap (λ ns. slice_get ns b.at) (log-is lane p.0 p.1)
-      ∙ get-map note_of p.0.notes b.at (At b.object b.number b.noted) b.stands
+      ∙ map_at note_of p.0.notes b.at (At b.object b.number b.noted) b.stands
       ∙ ap (λ d. Some (Note.At b.object b.number d)) b.birth in
       let place : b.object ≡ Object.Root root.place =
       birth-placed shape logs hold lane b.at b.number b.object root b.region noted in
@@ -259,7 +262,7 @@ module _ (shape : Shape) (parts : List Part) (hold : HistoriesHold shape (logs_i
 
       once : OnceEach (map told_leak told.roots)
       once i j x y a b lanes serials =
-          let p = map-get told_leak told.roots i x a in let q = map-get told_leak told.roots j y b in
+          let p = in_map told_leak told.roots i x a in let q = in_map told_leak told.roots j y b in
           let same : p.0.0 ≡ q.0.0 =
           one-root p.0 q.0 (root-live i p.0 p.1) (root-live j q.0 q.1)
           (ap (λ l. l.lane) p.2 ∙ lanes ∙ sym (ap (λ l. l.lane) q.2))
@@ -280,15 +283,15 @@ module _ (shape : Shape) (parts : List Part) (hold : HistoriesHold shape (logs_i
             pair-of (λ u v. u.0.place < v.0.place) told.roots j i q.0 p.0 told.by_place q.1 p.1
                 lt,
           )))
-          (λ (le : i ≤ j). omega (arith, ge, le)) (below-or j i))
-          (below-or i j)
+          (λ (le : i ≤ j). omega (arith, ge, le)) (cases_lt j i))
+          (cases_lt i j)
 
       in-report : (x : RootId × Watch) (k : ℕ) → slice_get told.roots k ≡ Some x → In (told_leak x) leaks
       in-report x k e =
           contains-in leaks (told_leak x)
           (Contains-permutation (map leak_for live) leaks (told_leak x) report.same
           (in-contains (map leak_for live) (told_leak x)
-          (subst (λ ls. In (told_leak x) ls) (sym all-leaks) (k, get-map told_leak told.roots k x e))))
+          (subst (λ ls. In (told_leak x) ls) (sym all-leaks) (k, map_at told_leak told.roots k x e))))
 
       of-report : (l : Leak) → In l leaks → (x : RootId × Watch) × (k : ℕ) × (slice_get told.roots k ≡ Some x)
           × (told_leak x ≡ l)
@@ -298,7 +301,7 @@ module _ (shape : Shape) (parts : List Part) (hold : HistoriesHold shape (logs_i
           (in-contains leaks l i)) in
           let at : slice_get (map told_leak told.roots) c.0 ≡ Some l = ap (λ ls. slice_get ls c.0) (sym all-leaks)
           ∙ c.1 in
-          let m = map-get told_leak told.roots c.0 l at in
+          let m = in_map told_leak told.roots c.0 l at in
           (m.0, c.0, m.1, m.2)
 
       pub leaks-are : leaks ≡ leaks_of shape logs

@@ -1,6 +1,7 @@
 -- The run of lanes that have finished, and of their pool at its close, is legal.
 use Rattle.std.proofs.Common.{⊎_elim, inl, inr, ◌≡◌, ℕ, ◌<◌, ◌≤◌, List, length, refl, sym, ap, subst, arith, Some, ◌∙◌}
 use Rattle.std.specs.Prelude.{◌⊎◌, map, slice_get}
+use Rattle.std.proofs.lemmas.Bool.{cases_lt}
 use Rattle.size_classes.specs.Sizes.{below}
 use Rattle.pool_law.specs.declared.command.Command.{Command}
 use Rattle.pool_law.specs.declared.id.RootId.{RootId}
@@ -24,17 +25,17 @@ use Rattle.shared_pool.specs.declared.pool.SharedPool.{SharedPool}
 use Rattle.shared_pool.specs.Closing.{AreWhole, logs_in, entries_in, entry_of as entry_in}
 use Rattle.shared_pool.specs.Live.{AreLiveRoots}
 use Rattle.shared_pool.proofs.LooksHeld.{looks-held}
+use Rattle.shared_pool.proofs.ClosingWhole.{in_map}
 use Rattle.lane_core.specs.declared.lane.Lane.{Lane}
 use Rattle.lane_core.specs.Sampled.{AreSampled}
 use Rattle.lane_core.specs.Contexts as contexts
 use Rattle.lane_core.specs.Lanes.{number_of}
 use Rattle.lane_core.specs.Played.{AreFinished, IsFinishedLane, IsPlayed, IsRunOf, log_written}
 use Rattle.lane_core.proofs.EitherLane.{lane_context, lane_commands}
-use Rattle.lane_core.proofs.PlayedLists.{length-map, map-get, log-at, log-past}
+use Rattle.lane_core.proofs.PlayedLists.{length-map, log-at, log-past}
 use Rattle.lane_core.proofs.PlayedSeats.{lane-at}
 use Rattle.lane_core.proofs.PlayedLogs.{own_part, parts_of_lanes, parts-are, parts-length, finished-at, logs-are, entries-at, replies-at}
 use Rattle.lane_core.proofs.PlayedAnswers.{lane-log}
-use Rattle.lane_core.proofs.PlayedReport.{below-or}
 use Rattle.lane_core.proofs.PlayedReported.{leaks-are}
 
 -- a lane of the log's fields, which were rewritten one by one
@@ -65,7 +66,7 @@ module _ (pool : SharedPool) (lanes : List Lane) (run : Run) (fin : AreFinished 
     lane-or : (k : ℕ) → ((l : Lane) × (slice_get lanes k ≡ Some l) × IsFinishedLane pool k l) ⊎ (length lanes ≤ k)
     lane-or k =
         ⊎_elim (λ (lt : k < shape.lanes). inl (lane-at pool lanes fin k lt))
-        (λ (ge : shape.lanes ≤ k). inr (omega (arith, ge, fin.many))) (below-or k shape.lanes)
+        (λ (ge : shape.lanes ≤ k). inr (omega (arith, ge, fin.many))) (cases_lt k shape.lanes)
 
     commands : (k : ℕ) → AreCommands shape (of_lane run.trace.lanes k)
     commands k =
@@ -122,7 +123,7 @@ module _ (pool : SharedPool) (lanes : List Lane) (run : Run) (fin : AreFinished 
     sampled : (k : ℕ) (p : Part) → slice_get parts k ≡ Some p
         → (last : Sampling) × AreSampled (new_sampler k shape.level shape.interval) p.notes last
     sampled k p e =
-        let m = map-get own_part lanes k p (ap (λ ps. slice_get ps k) (sym (parts-are lanes)) ∙ e) in
+        let m = in_map own_part lanes k p (ap (λ ps. slice_get ps k) (sym (parts-are lanes)) ∙ e) in
         let f = finished-at pool lanes fin k m.0 m.1 in (
           m.0.context.sampler,
           subst (λ q. AreSampled (new_sampler k shape.level shape.interval) q.notes m.0.context.sampler) m.2

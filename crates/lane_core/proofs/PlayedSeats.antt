@@ -5,6 +5,7 @@ use Rattle.pool_table.specs.declared.views.SeatView.{SeatView}
 use Rattle.shared_pool.specs.SeatViews.{view_of}
 use Rattle.shared_pool.specs.declared.pool.SharedPool.{SharedPool}
 use Rattle.shared_pool.specs.Seated.{HasNothing, IsDone, AreDone}
+use Rattle.shared_pool.proofs.Openings.{map_at}
 use Rattle.lane_core.specs.declared.context.Stage.TheVariants.{Closing}
 use Rattle.lane_core.specs.declared.draining.Draining.TheVariants.{Done}
 use Rattle.lane_core.specs.declared.lane.Lane.{Lane}
@@ -12,7 +13,7 @@ use Rattle.seat_work.specs.Hands.{IsHeld}
 use Rattle.lane_core.specs.Contexts.{hand_of}
 use Rattle.lane_core.specs.Played.{IsFinishedLane, AreFinished}
 use Rattle.lane_core.proofs.EitherLane.{lane_context}
-use Rattle.lane_core.proofs.PlayedLists.{stands-at, HoldsAt-from, length-map, get-map}
+use Rattle.lane_core.proofs.PlayedLists.{stands-at, HoldsAt-from, length-map}
 
 nothing-held : (v : SeatView) → IsHeld (hand_of (Closing Done)) v → HasNothing v
 nothing-held v held = record {
@@ -50,5 +51,5 @@ seats-done pool lanes fin = record {
   each = λ k lt.
       let at = lane-at pool lanes fin k lt in
       HoldsAt-from (IsDone pool k) (map (λ (l : Lane). l.context.seat) lanes) k at.0.context.seat
-      (get-map (λ (l : Lane). l.context.seat) lanes k at.0 at.1) (lane-done pool k at.0 at.2);
+      (map_at (λ (l : Lane). l.context.seat) lanes k at.0 at.1) (lane-done pool k at.0 at.2);
 }

@@ -3,6 +3,7 @@ use Rattle.std.proofs.Common.{◌≡◌, ℕ, ◌+◌, ◌-◌, ◌<◌, ◌≤�
 use Rattle.std.specs.Prelude.{sum_by, ◌⊎◌, ◌&&◌, ◌||◌, if◌then◌else◌}
 use Rattle.std.proofs.lemmas.List.{map-append}
 use Rattle.std.proofs.lemmas.List.Sums.{sum_by-cons}
+use Rattle.std.proofs.lemmas.Bool.{cases_lt, or_left}
 use Rattle.pool_law.specs.declared.id.RootId.{RootId}
 use Rattle.pool_law.specs.declared.id.ViewData.{ViewData}
 use Rattle.pool_law.specs.declared.note.Did.{Did}
@@ -19,15 +20,13 @@ use Rattle.pool_law.proofs.PatternLemmas.{same_root-refl}
 use Rattle.history_laws.specs.NoteCounts.{one_if_so, view_of_root, did_fetch_of, did_post_of}
 use Rattle.pool_table.specs.declared.views.Entry.{Entry}
 use Rattle.pool_table.specs.declared.views.Entry.TheVariants.{At, Ref, Busy}
-use Rattle.pool_table.specs.declared.views.Part.{Part}
 use Rattle.pool_table.specs.declared.views.SeatView.{SeatView}
-use Rattle.pool_table.specs.Counts.{weigh, on_this, ref_gain, ref_loss, fetches, posts, gained_of, lost_of, HasCount, CountsOne}
-use Rattle.pool_table.specs.Learned.{in_own}
+use Rattle.pool_table.specs.Counts.{on_this, ref_gain, ref_loss, fetches, posts, gained_of, lost_of, HasCount, CountsOne}
 use Rattle.shared_pool.specs.Closing.{entry_of}
 use Rattle.lane_core.specs.declared.counts.Counted.{Counted}
 use Rattle.seat_work.specs.Changes.{one_for}
 use Rattle.lane_core.specs.Counting.{counted, CountsAre, AddCounts}
-use Rattle.seat_work.proofs.Grown.{Grows, weigh_more}
+use Rattle.seat_work.proofs.Grown.{weigh_own, Grows, weigh_more}
 use Rattle.lane_core.proofs.EntryCounts.{counts_append, holds_append, Recounts, IsStill, unmoved}
 
 -- ---- The counts of the log are those of the seat.
@@ -69,19 +68,15 @@ ref_step true Ended k h = let p = h refl in omega (arith, p)
 ref_step true Vacated k h = omega arith
 ref_step true (Look j) k h = omega arith
 
-left_holds : (a b : Bool) → a ≡ true → (a || b) ≡ true
-left_holds true b e = refl
-left_holds false b e = absurd (cc e)
-
 entry_step : (root : RootId) (k : ℕ) (e : Entry) → (needs_count root (entry_of e) ≡ true → 0 < k) →
     (on_this ref_gain root e + fetches root e) + k
     ≡ (on_this ref_loss root e + posts root e) + count_step root k (entry_of e)
 entry_step root k (At o n x) h =
     let a = did_step root k o n x.did
-    (λ y. h (left_holds (note_needs root (Note.At o n x.did)) (root_is root x.root) y)) in
+    (λ y. h (or_left (note_needs root (Note.At o n x.did)) (root_is root x.root) y)) in
     omega (arith, a)
 entry_step root k (Ref r d) h =
-    let a = ref_step (same_root r root) d k (λ y. h (left_holds (same_root r root && ref_needs d) false y)) in
+    let a = ref_step (same_root r root) d k (λ y. h (or_left (same_root r root && ref_needs d) false y)) in
     omega (arith, a)
 entry_step root k (Busy b) h = omega arith
 
@@ -95,19 +90,13 @@ weighs root k (e ∷ es) h =
     let l = sum_by-cons (on_this ref_loss root) e es in let m = sum_by-cons (posts root) e es in
     omega (arith, a, b, f, g, l, m)
 
-weigh_alone : (f : Entry → ℕ) (v : SeatView) → v.others ≡ [] → weigh f v ≡ in_own f v
-weigh_alone f v alone =
-    let g : Part → ℕ = λ (p : Part). sum_by f p.notes in
-    let a : weigh f v ≡ g v.own + sum_by g v.others = sum_by-cons g v.own v.others in
-    let b : sum_by g v.others ≡ 0 = ap (λ (ps : List Part). sum_by g ps) alone in omega (arith, a, b)
-
 module _ (cs : List Counted) (v : SeatView) (alone : v.others ≡ []) (are : CountsAre cs (map entry_of v.own.notes))
     (root : RootId) where
   pub own_count : gained_of root v ≡ lost_of root v + counted cs root
   own_count =
       let a = weighs root 0 v.own.notes (are.holds root) in let b = are.counts root in
-      let f = weigh_alone (on_this ref_gain root) v alone in let g = weigh_alone (fetches root) v alone in
-      let l = weigh_alone (on_this ref_loss root) v alone in let m = weigh_alone (posts root) v alone in
+      let f = weigh_own (on_this ref_gain root) v alone in let g = weigh_own (fetches root) v alone in
+      let l = weigh_own (on_this ref_loss root) v alone in let m = weigh_own (posts root) v alone in
       omega (arith, a, b, f, g, l, m)
 
   pub has_count : 0 < counted cs root → HasCount root v
@@ -142,9 +131,6 @@ count_few root k (e ∷ es) =
 pub few_counted : (cs : List Counted) (es : ToldNotes) → CountsAre cs es → (root : RootId) → counted cs root ≤ length es
 few_counted cs es are root = let a = are.counts root in let b = count_few root 0 es in omega (arith, a, b)
 
-below_or : (a b : ℕ) → (a < b) ⊎ (b ≤ a)
-below_or a b = grind arith
-
 -- the release that ended a root took the seat's last count of it away
 pub last_count : (cs : List Counted) (v w : SeatView) (r : RootId) (spent : ℕ) → CountsAre cs (map entry_of v.own.notes)
     → v.others ≡ [] → Grows v w (Ref r Ended ∷ []) spent → (HasCount r w → ⊥) → counted cs r ≤ 1
@@ -157,7 +143,7 @@ last_count cs v w r spent are alone grows uncounted =
     let gain : on_this ref_gain r (Ref r Ended) ≡ 0 = ap (λ (b : Bool). cond {A = ℕ} b 0 0) (same_root-refl r) in
     let loss : on_this ref_loss r (Ref r Ended) ≡ 1 = ap (λ (b : Bool). cond {A = ℕ} b 1 0) (same_root-refl r) in
     ⊎_elim (λ (lt : 1 < counted cs r). absurd (uncounted (omega (arith, a, f, g, l, m, gain, loss, lt))))
-    (λ (le : counted cs r ≤ 1). le) (below_or 1 (counted cs r))
+    (λ (le : counted cs r ≤ 1). le) (cases_lt 1 (counted cs r))
 
 -- ---- ToldNotes that add to the counts.
 
@@ -246,8 +232,8 @@ pub own_gain : (v : SeatView) → v.others ≡ [] → (root : RootId) → Counts
     → gained_of root v ≡ lost_of root v + count_of root (map entry_of v.own.notes)
 own_gain v alone root holds =
     let a = weighs root 0 v.own.notes holds in
-    let f = weigh_alone (on_this ref_gain root) v alone in let g = weigh_alone (fetches root) v alone in
-    let l = weigh_alone (on_this ref_loss root) v alone in let m = weigh_alone (posts root) v alone in
+    let f = weigh_own (on_this ref_gain root) v alone in let g = weigh_own (fetches root) v alone in
+    let l = weigh_own (on_this ref_loss root) v alone in let m = weigh_own (posts root) v alone in
     omega (arith, a, f, g, l, m)
 
 -- of the place of a root that these entries add no other root is counted

@@ -11,6 +11,7 @@ use pool_law::{CommandList, CommandLists, LaneLog, LaneLogs, Run, Shape, Trace};
 use shared_pool::{PoolSeat, SharedPool};
 use std::alloc::{AllocError, Global};
 use std::marker::Model;
+use std::sync::Wait;
 
 /// A run that lanes played over a pool. It is legal, what a lane did before it sent a parcel
 /// stands, at each object, before what the receiver did there after it fetched it, and all steps of
@@ -56,7 +57,8 @@ impl Played {
 /// of its leaks.
 ///
 /// After want of memory the pool and the lanes are spent.
-pub fn finish(
+pub fn finish<W: Wait>(
+    rt: &W,
     alloc: Global,
     pool: SharedPool,
     shape: &Shape,
@@ -74,7 +76,7 @@ pub fn finish(
         return Err(AllocError);
     };
     let (Parted { commands, logs }, seats) = part(lanes, parted);
-    let end = match pool.close(alloc, seats) {
+    let end = match pool.close(rt, alloc, seats) {
         Ok(end) => end,
         Err((pool, seats)) => {
             pool.abandon(seats);

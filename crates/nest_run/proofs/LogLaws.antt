@@ -1,7 +1,6 @@
 -- What more notes tell: of the notes before them, of the root's bytes, and of its counts.
-use Rattle.std.proofs.Common.{◌≡◌, ℕ, ◌+◌, ◌≤◌, Bool, true, false, ◌&&◌, List, [], ◌∷◌, ◌++◌, length, map, replicate, refl, sym, ap, ◌∙◌, subst, arith, Some, None, eqb-true}
+use Rattle.std.proofs.Common.{◌≡◌, ℕ, ◌+◌, Bool, true, false, ◌&&◌, List, [], ◌∷◌, ◌++◌, length, map, replicate, refl, sym, ap, ◌∙◌, subst, arith, Some, None, eqb-true}
 use Rattle.std.specs.Prelude.{Option, ◌==◌, if◌then◌else◌, nat_le, option_and_then, IfSome}
-use Rattle.std.proofs.lemmas.Bool.{and_left, and_right}
 use Rattle.std.proofs.lemmas.List.{map-append}
 use Rattle.pool_law.specs.declared.id.RootId.{RootId}
 use Rattle.pool_law.specs.declared.id.RegionId.{RegionId}
@@ -12,17 +11,17 @@ use Rattle.pool_law.specs.declared.note.Note.TheVariants.{At, Ref}
 use Rattle.pool_law.specs.declared.note.Object.{Object}
 use Rattle.pool_law.specs.declared.note.RefDid.{RefDid}
 use Rattle.pool_law.specs.declared.note.RefDid.TheVariants as steps
-use Rattle.pool_law.specs.Caches.{if_so}
 use Rattle.pool_law.specs.Counts.{is_born, is_retain, is_release, ref_loses}
 use Rattle.pool_law.specs.Histories.{after, place_after}
 use Rattle.pool_law.specs.Logs.{own}
-use Rattle.pool_law.specs.Roots.{RootPlace, Present, new_place, place_step, place_step_by, present_step, vacant_step, may_be_born, born, laid_over, bytes_at}
+use Rattle.pool_law.specs.Roots.{RootPlace, Present, new_place, place_step, place_step_by, may_be_born, born, laid_over, bytes_at}
 use Rattle.pool_law.specs.Same.{same_bytes, same_root}
 use Rattle.pool_law.proofs.HistoryLemmas.{append-assoc, own-append}
 use Rattle.pool_law.proofs.PatternLemmas.{same_root-refl}
 use Rattle.seat_work.specs.Growth.{how_many}
 use Rattle.nest_run.specs.Plays.{first_root}
-use Rattle.nest_run.specs.Standing.{dids_of, Leave, FitsRelease, IsWhole, HasBytes, is_elsewhere}
+use Rattle.nest_run.specs.Standing.{dids_of, Leave, FitsRelease, IsWhole, HasBytes}
+use Rattle.history_laws.proofs.BinSteps.{so}
 
 -- ---- Notes before others.
 
@@ -107,17 +106,13 @@ step_at log k d t e =
     let p = split_place log (At (Object.Root 0) k d ∷ []) t e in
     (p.mid, (p.before, one_step p.mid d t p.behind))
 
-so_is : {X : Type 0} (b : Bool) (x y : X) → if_so b x ≡ Some y → (b ≡ true) × (x ≡ y)
-so_is true x y e = (refl, (cc e))
-so_is false x y e = absurd (cc e)
-
 -- bytes are laid over those of the root
 set_step : (mid t : RootPlace) (offset : ℕ) (data' bytes : List ℕ) (o : Option Present)
     → place_step_by 0 mid o (did.Set offset data') ≡ Some t → IfSome o (λ p. p.bytes ≡ bytes)
     → IfSome t.present (λ p. p.bytes ≡ laid_over bytes offset data')
 set_step mid t offset data' bytes None e has = absurd (cc e)
 set_step mid t offset data' bytes (Some p) e has =
-    let w = so_is (nat_le (offset + length data') (length p.bytes)) _ t e in
+    let w = so (nat_le (offset + length data') (length p.bytes)) _ t e in
     subst (λ (s : RootPlace). IfSome s.present (λ q. q.bytes ≡ laid_over bytes offset data')) w.1
     (ap (λ (xs : List ℕ). laid_over xs offset data') has)
 
@@ -146,7 +141,7 @@ get_step : (mid t : RootPlace) (offset : ℕ) (data' bytes : List ℕ) (o : Opti
     → (data' ≡ bytes_at bytes offset (length data')) × IfSome t.present (λ p. p.bytes ≡ bytes)
 get_step mid t offset data' bytes None e is has = absurd (cc e)
 get_step mid t offset data' bytes (Some p) e is has =
-    let w = so_is (nat_le (offset + length data') (length p.bytes)
+    let w = so (nat_le (offset + length data') (length p.bytes)
     && same_bytes data' (bytes_at p.bytes offset (length data'))) mid t e in
     let seen : same_bytes data' (bytes_at p.bytes offset (length data')) ≡ true =
     second (nat_le (offset + length data') (length p.bytes)) _ w.0 in (
@@ -177,7 +172,7 @@ end_step : (mid t : RootPlace) (root : RootId) (bytes : List ℕ) (o : Option Pr
     → place_step_by 0 mid o (did.End root) ≡ Some t → IfSome t.present (λ p. p.bytes ≡ bytes)
 end_step mid t root bytes None e = absurd (cc e)
 end_step mid t root bytes (Some p) e =
-    let w = so_is (same_root root p.root) _ t e in
+    let w = so (same_root root p.root) _ t e in
     subst (λ (s : RootPlace). IfSome s.present (λ q. q.bytes ≡ bytes)) w.1 tt
 
 pub bytes_ended : (log : List Note) (k : ℕ) (root : RootId) (bytes : List ℕ)
@@ -191,7 +186,7 @@ birth_step : (t : RootPlace) (root : RootId) (region : RegionId)
     → place_step 0 new_place (did.Birth root region) ≡ Some t
     → (root ≡ first_root root.capacity) × IfSome t.present (λ p. p.bytes ≡ replicate root.capacity 0)
 birth_step t root region e =
-    let w = so_is (may_be_born 0 new_place root region) (born root region) t e in
+    let w = so (may_be_born 0 new_place root region) (born root region) t e in
     let place : root.place ≡ 0 = eqb-true root.place 0 (first (root.place == 0) _ w.0) in
     let generation : root.generation ≡ 1 =
     eqb-true root.generation 1 (first (root.generation == 1) _ (second (root.place == 0) _ w.0)) in (

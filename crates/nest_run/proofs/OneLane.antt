@@ -1,6 +1,6 @@
 -- The logs of one lane: their history at an object is what the lane noted there, and their one order is its own.
-use Rattle.std.proofs.Common.{◌≡◌, ◌≢◌, ℕ, zero, suc, ◌+◌, ◌<◌, Bool, true, false, List, [], ◌∷◌, ◌++◌, map, refl, sym, ap, ◌∙◌, subst, ⊎_elim, arith, Some, None, eq-eqb, ne_eqb}
-use Rattle.std.specs.Prelude.{Option, ◌==◌, if◌then◌else◌, is_some, IsTrue}
+use Rattle.std.proofs.Common.{◌≡◌, ◌≢◌, ℕ, zero, suc, ◌+◌, Bool, false, List, [], ◌∷◌, ◌++◌, map, refl, sym, ap, ◌∙◌, subst, ⊎_elim, arith, eq-eqb, ne_eqb}
+use Rattle.std.specs.Prelude.{◌==◌, if◌then◌else◌}
 use Rattle.std.proofs.lemmas.Bool.{cases_eq}
 use Rattle.pool_law.specs.declared.id.RootId.{RootId}
 use Rattle.pool_law.specs.declared.note.Did.{Did}
@@ -13,12 +13,13 @@ use Rattle.pool_law.specs.declared.run.Shape.{Shape}
 use Rattle.pool_law.specs.Counts.{is_born, is_retain, is_release}
 use Rattle.pool_law.specs.Histories.{place_after}
 use Rattle.pool_law.specs.Legal.{HistoriesHold}
-use Rattle.pool_law.specs.Logs.{Logs, History, dids, own, of_lane, numbered, history_of}
+use Rattle.pool_law.specs.Logs.{History, dids, own, of_lane, numbered, history_of}
 use Rattle.pool_table.specs.declared.views.Part.{Part}
 use Rattle.run_order.specs.Order.{Step, notes_by, made, Fits, FitsCount, InOneOrder}
 use Rattle.seat_work.specs.Growth.{how_many}
 use Rattle.shared_pool.specs.Closing.{AreWhole, note_of}
 use Rattle.nest_run.specs.Standing.{dids_of, Leave, FitsRelease, IsWhole}
+use Rattle.history_laws.proofs.Runs.{there}
 
 other_lane : (log : List Note) (lane : ℕ) → lane ≢ 0 → of_lane (log ∷ []) lane ≡ []
 other_lane log zero other = absurd (other refl)
@@ -55,10 +56,6 @@ history_is shape log holds =
     let whole = holds.whole (Object.Root 0) refl in
     sym (all_own 1 h (λ lane other. sym (whole lane) ∙ ap (own (Object.Root 0)) (other_lane log lane other)))
     ∙ ap (map (λ (e : ℕ × Did). e.1)) (sym (whole 0))
-
-some_if : {A : Type 0} (o : Option A) → IsTrue (is_some o) → (a : A) × (o ≡ Some a)
-some_if None h = absurd (cc h)
-some_if (Some a) h = (a, refl)
 
 -- ---- The order.
 
@@ -143,7 +140,7 @@ releases_fit log order before after root did e =
 pub closed_whole : (shape : Shape) (part : Part) → AreWhole shape (part ∷ []) → IsWhole (map note_of part.notes)
 closed_whole shape part whole =
     let log : List Note = map note_of part.notes in
-    let place = some_if (place_after 0 (dids (history_of (Object.Root 0) (log ∷ []))))
+    let place = there (place_after 0 (dids (history_of (Object.Root 0) (log ∷ []))))
     (whole.histories.accepted (Object.Root 0) refl) in
     record {
       state = place.0;

@@ -1,5 +1,5 @@
 -- A root that is born in a new pool, and the first moment of a play.
-use Rattle.std.proofs.Common.{◌≡◌, ℕ, ◌+◌, ◌-◌, ◌*◌, ◌<◌, ◌≤◌, Bool, false, ◌&&◌, List, [], ◌∷◌, ◌++◌, map, replicate, zero, suc, refl, sym, ap, ◌∙◌, subst, arith, Some, None}
+use Rattle.std.proofs.Common.{◌≡◌, ℕ, ◌+◌, ◌-◌, ◌*◌, ◌≤◌, Bool, false, ◌&&◌, List, [], ◌∷◌, ◌++◌, map, replicate, zero, suc, refl, sym, ap, ◌∙◌, subst, arith, Some, None}
 use Rattle.std.specs.Prelude.{IfSome, if◌then◌else◌}
 use Rattle.std.proofs.lemmas.Option.{same_Some}
 use Rattle.handle_bin.specs.Bins.{HandleValue}
@@ -14,8 +14,6 @@ use Rattle.pool_law.specs.Same.{same_root}
 use Rattle.pool_law.proofs.PatternLemmas.{same_root-refl}
 use Rattle.shared_pool.specs.declared.seat.PoolSeat.{PoolSeat}
 use Rattle.pool_table.specs.declared.views.Layout.{Layout}
-use Rattle.pool_table.specs.declared.views.SeatView.{SeatView}
-use Rattle.pool_table.specs.Counts.{gained_of, lost_of}
 use Rattle.shared_pool.specs.SeatViews.{view_of}
 use Rattle.shared_pool.specs.declared.pool.SharedPool.{SharedPool}
 use Rattle.shared_pool.specs.Closing.{note_of}
@@ -31,7 +29,7 @@ use Rattle.seat_work.specs.Hands.{Hand, empty_hand}
 use Rattle.seat_work.specs.Works.{Works, Proceeds}
 use Rattle.seat_work.proofs.Calls.{popped_handle, took_region, born_root}
 use Rattle.seat_work.proofs.Counting.{one_self}
-use Rattle.seat_work.proofs.FirstSeats.{opened_works}
+use Rattle.seat_work.proofs.FirstSeats.{fresh_counts, opened_works}
 use Rattle.seat_work.proofs.Holds.{holds_handle, is_handle}
 use Rattle.seat_work.proofs.Proceeding.{works_after}
 use Rattle.counted_view.specs.Nests.{NestedView, NestState, new_nest}
@@ -59,14 +57,6 @@ works_less pool hand t m a b s w le lf = record {
   turns_left = (let x = w.turns_left in omega (arith, x, le));
   moves_left = (let x = w.moves_left in omega (arith, x, lf));
 }
-
--- a view without notes counts no root
-fresh_counts : (v : SeatView) (root : RootId) → v.own.notes ≡ [] → v.others ≡ []
-    → (gained_of root v ≡ 0) × (lost_of root v ≡ 0)
-fresh_counts v root notes others =
-    subst (λ (u : SeatView). (gained_of root u ≡ 0) × (lost_of root u ≡ 0))
-    (λ i. record v { own = record { number = v.own.number; notes = sym notes i }; others = sym others i })
-    (refl, refl)
 
 born_leaves : (root : RootId) (lane j arena k n : ℕ) (p t b : Did) → Leave (opening lane j p arena k t root n b) root 1
 born_leaves root lane j arena k n p t b =

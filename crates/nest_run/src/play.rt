@@ -39,7 +39,7 @@ pub fn play<W: Wait>(rt: &W, alloc: Global, input: &Input) -> Result<Played, All
         pool.abandon(seats);
         return Err(AllocError);
     };
-    match pool.close(alloc, seats) {
+    match pool.close(rt, alloc, seats) {
         Ok(_end) => Ok(played),
         Err((pool, seats)) => {
             pool.abandon(seats);

@@ -112,23 +112,28 @@ fn measure<R: Threads + Wait + Sync + Clock + AllocGlobal>(
     let (mut runners, spare) = match runners_of(rt.alloc(), seats, rooms) {
         Ok(made) => made,
         Err(seats) => {
-            close(rt.alloc(), pool, seats)?;
+            close(rt, rt.alloc(), pool, seats)?;
             return Err(AllocError.into());
         }
     };
     let start = Instant::now(rt);
     let (sum, refused) = work_all(rt, &pool, &shape, &sizes, plan, runners.as_mut_slice());
     let end = Instant::now(rt);
-    close(rt.alloc(), pool, seats_of(runners, spare))?;
+    close(rt, rt.alloc(), pool, seats_of(runners, spare))?;
     let took = end?.saturating_duration_since(start?).as_nanos();
     Ok(Measured { took, sum, refused })
 }
 
 // Closes a pool, or abandons it where memory is refused.
-fn close(alloc: Global, pool: SharedPool, seats: Vec<PoolSeat>) -> Result<(), AllocError>
+fn close<W: Wait>(
+    rt: &W,
+    alloc: Global,
+    pool: SharedPool,
+    seats: Vec<PoolSeat>,
+) -> Result<(), AllocError>
     requires { AreDone pool seats.items }
 {
-    match pool.close(alloc, seats) {
+    match pool.close(rt, alloc, seats) {
         Ok(_end) => Ok(()),
         Err((pool, seats)) => {
             pool.abandon(seats);

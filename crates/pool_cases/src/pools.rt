@@ -17,6 +17,7 @@ use shared_pool::{PoolEnd, PoolSeat, SharedPool, Went};
 use size_classes::DEFAULT_PAGE;
 use std::alloc::{AllocError, Global};
 use std::mem::ManuallyDrop;
+use std::sync::Wait;
 use std::test::Fail;
 
 // One lane with one handle, over one chunk of 65,536 bytes.
@@ -97,11 +98,16 @@ fn a_handle_is_taken(rt: HostRuntime) -> Result<(), Fail> {
 }
 
 // Closes a pool, or abandons it where memory is refused.
-fn close(alloc: Global, pool: SharedPool, seats: Vec<PoolSeat>) -> Result<PoolEnd, AllocError>
+fn close<W: Wait>(
+    rt: &W,
+    alloc: Global,
+    pool: SharedPool,
+    seats: Vec<PoolSeat>,
+) -> Result<PoolEnd, AllocError>
     requires { AreDone pool seats.items }
     ensures { IfOk result (λ end. AreLiveRoots (parts_in seats.items) end.live) }
 {
-    match pool.close(alloc, seats) {
+    match pool.close(rt, alloc, seats) {
         Ok(end) => Ok(end),
         Err((pool, seats)) => {
             pool.abandon(seats);
@@ -113,7 +119,7 @@ fn close(alloc: Global, pool: SharedPool, seats: Vec<PoolSeat>) -> Result<PoolEn
 #[test]
 fn a_new_pool_closes_with_nothing(rt: HostRuntime) -> Result<(), Fail> {
     let (pool, seats) = SharedPool::new(rt.alloc(), LAYOUT, &[1])?;
-    let end = close(rt.alloc(), pool, seats)?;
+    let end = close(&rt, rt.alloc(), pool, seats)?;
     assert!(rt; end.chunks.items().len() == 0);
     assert!(rt; end.live.items().len() == 0);
     Ok(())

@@ -91,7 +91,7 @@ pub(crate) fn close(
 {
     spare.push_reserved(first);
     spare.push_reserved(second);
-    match pool.close(alloc, spare) {
+    match pool.close_at_once(alloc, spare) {
         Ok(end) => Ok(end.chunks.items().len()),
         Err((pool, seats)) => {
             pool.abandon(seats);

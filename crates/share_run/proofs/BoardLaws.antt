@@ -14,6 +14,7 @@ use Rattle.pool_table.specs.Counts.{posts}
 use Rattle.shared_pool.specs.declared.pool.SharedPool.{SharedPool}
 use Rattle.shared_pool.specs.declared.seat.PoolSeat.{PoolSeat}
 use Rattle.shared_pool.specs.Seats.{IsPoolSeat}
+use Rattle.shared_pool.proofs.Openings.{there_at}
 use Rattle.board_table.specs.Sound.{reserve}
 use Rattle.shared_composite.specs.declared.board.Board.{Board}
 use Rattle.shared_composite.specs.declared.cores.Core.{Core}
@@ -142,11 +143,6 @@ gets_posts r roots (e ∷ es) gets =
     one (Ref root did) get = absurd get
     one (Busy held) get = absurd get
 
-some_at : {X : Type 0} (xs : List X) (k : ℕ) → k < length xs → (x : X) × (slice_get xs k ≡ Some x)
-some_at [] k lt = absurd (omega (arith, lt))
-some_at (x ∷ xs) zero lt = (x, refl)
-some_at (x ∷ xs) (suc k) lt = some_at xs k (omega (arith, lt))
-
 -- a core that gets brought further on
 kept_core : (pool : SharedPool) (lane : ℕ) (inputs : List (List ℕ)) (made core : Core)
     → IsCoreOf pool lane inputs made → IsKept made core → IsCore pool core → IsCoreOf pool lane inputs core
@@ -190,7 +186,7 @@ module _ (board : Board) (pool : SharedPool) (composites : List (List (List ℕ)
     turns = made.turns_are;
     many = made.composites ∙ stocked.many;
     sizes = λ k lt.
-        (let c = some_at cores k (let a = stocked.many in omega (arith, a, lt)) in
+        (let c = there_at cores k (let a = stocked.many in omega (arith, a, lt)) in
         ap size_of (ap parts_in (made.cores_are k ∙ c.1))
         ∙ ap (λ (ns : List ℕ). sum ns) (stocked.each k c.0 c.1).0.lens
         ∙ sym (length_concat (slice_index_or composites k [])));

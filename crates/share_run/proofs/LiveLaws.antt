@@ -1,102 +1,32 @@
 -- Where no seat counts a root, none is live at the close.
-use Rattle.std.proofs.Common.{◌≡◌, ℕ, zero, suc, ◌+◌, ◌<◌, ◌≤◌, Bool, true, false, ◌==◌, ◌&&◌, List, [], ◌∷◌, map, refl, sym, ap, ◌∙◌, arith, cond, Some}
-use Rattle.std.specs.Prelude.{All, if◌then◌else◌, not, sum_by, slice_get}
-use Rattle.std.proofs.lemmas.List.Sums.{sum_by-cons}
+use Rattle.std.proofs.Common.{◌≡◌, ℕ, zero, suc, ◌+◌, ◌<◌, ◌≤◌, true, false, ◌==◌, List, [], ◌∷◌, map, refl, sym, ap, ◌∙◌, arith, Some}
+use Rattle.std.specs.Prelude.{All, not, slice_get}
 use Rattle.pool_law.specs.declared.id.RootId.{RootId}
 use Rattle.pool_law.specs.declared.note.Did.{Did}
 use Rattle.pool_law.specs.declared.note.Note.{Note}
 use Rattle.pool_law.specs.declared.note.Object.{Object}
-use Rattle.pool_law.specs.declared.note.RefDid.TheVariants.{Born, Retain, Kept, Ended, Vacated, Look}
 use Rattle.pool_law.specs.declared.report.Watch.{Watch}
 use Rattle.pool_law.specs.declared.run.Shape.{Shape}
 use Rattle.pool_law.specs.Counts.{TotalHolds, count_in, count_over, is_birth, is_born, is_release, is_retain, total_of}
 use Rattle.pool_law.specs.Leaks.{is_live}
 use Rattle.pool_law.specs.Logs.{entries_of, of_lane}
-use Rattle.pool_law.specs.Same.{same_root}
 use Rattle.pool_law.proofs.PatternLemmas.{same_root-refl}
 use Rattle.leak_records.specs.declared.live.LiveRoot.{LiveRoot}
 use Rattle.pool_table.specs.declared.views.Entry.{Entry as SeatEntry}
-use Rattle.pool_table.specs.declared.views.Entry.TheVariants.{At, Ref, Busy}
+use Rattle.pool_table.specs.declared.views.Entry.TheVariants.{At}
 use Rattle.pool_table.specs.declared.views.Part.{Part}
-use Rattle.pool_table.specs.declared.views.SeatView.{SeatView}
-use Rattle.pool_table.specs.Counts.{on_this, posts, ref_gain, ref_loss, weigh}
+use Rattle.pool_table.specs.Counts.{on_this, posts, ref_gain, ref_loss}
 use Rattle.shared_pool.specs.declared.seat.PoolSeat.{PoolSeat}
 use Rattle.shared_pool.specs.declared.pool.SharedPool.{SharedPool}
 use Rattle.shared_pool.specs.Closing.{AreWhole, entries_in, entry_of, logs_in}
 use Rattle.shared_pool.specs.Live.{AreLiveRoots, IsLive, live_of}
 use Rattle.shared_pool.specs.Seated.{parts_in}
 use Rattle.shared_pool.specs.SeatViews.{view_of}
+use Rattle.seat_work.proofs.NotedCounts.{gains, losses, one}
+use Rattle.seat_work.proofs.Grown.{weigh_own}
 use Rattle.share_run.specs.Standing.{AreSpent, IsSpent}
 
--- ---- One entry.
-
-abbrev one : Bool → ℕ
-one b = if b then 1 else 0
-
-first_one : (b : Bool) → one b + 0 ≡ cond {A = ℕ} b 1 0
-first_one true = refl
-first_one false = refl
-
-second_one : (b : Bool) → 0 + one b ≡ cond {A = ℕ} b 1 0
-second_one true = refl
-second_one false = refl
-
-no_one : (b : Bool) → ◌≡◌ {A = ℕ} 0 (cond {A = ℕ} b 0 0)
-no_one true = refl
-no_one false = refl
-
-and_true : (b : Bool) → one (b && true) ≡ cond {A = ℕ} b 1 0
-and_true true = refl
-and_true false = refl
-
-and_false : (b : Bool) → one (b && false) ≡ cond {A = ℕ} b 0 0
-and_false true = refl
-and_false false = refl
-
-gain_entry : (r : RootId) (e : SeatEntry)
-    → one (is_born r (entry_of e).note) + one (is_retain r (entry_of e).note) ≡ on_this ref_gain r e
-gain_entry r (At o k n) = refl
-gain_entry r (Busy b) = refl
-gain_entry r (Ref q Born) = first_one (same_root q r)
-gain_entry r (Ref q Retain) = second_one (same_root q r)
-gain_entry r (Ref q Kept) = no_one (same_root q r)
-gain_entry r (Ref q Ended) = no_one (same_root q r)
-gain_entry r (Ref q Vacated) = no_one (same_root q r)
-gain_entry r (Ref q (Look found)) = no_one (same_root q r)
-
-loss_entry : (r : RootId) (e : SeatEntry) → one (is_release r (entry_of e).note) ≡ on_this ref_loss r e
-loss_entry r (At o k n) = refl
-loss_entry r (Busy b) = refl
-loss_entry r (Ref q Born) = and_false (same_root q r)
-loss_entry r (Ref q Retain) = and_false (same_root q r)
-loss_entry r (Ref q Kept) = and_true (same_root q r)
-loss_entry r (Ref q Ended) = and_true (same_root q r)
-loss_entry r (Ref q Vacated) = and_false (same_root q r)
-loss_entry r (Ref q (Look found)) = and_false (same_root q r)
-
 -- ---- One seat.
-
-gains : (r : RootId) (es : List SeatEntry)
-    → count_in (is_born r) (map entry_of es) + count_in (is_retain r) (map entry_of es)
-    ≡ sum_by (on_this ref_gain r) es
-gains r [] = refl
-gains r (e ∷ es) =
-    let a = sum_by-cons (on_this ref_gain r) e es in let b = gain_entry r e in let c = gains r es in
-    omega (arith, a, b, c)
-
-losses : (r : RootId) (es : List SeatEntry)
-    → count_in (is_release r) (map entry_of es) ≡ sum_by (on_this ref_loss r) es
-losses r [] = refl
-losses r (e ∷ es) =
-    let a = sum_by-cons (on_this ref_loss r) e es in let b = loss_entry r e in let c = losses r es in
-    omega (arith, a, b, c)
-
--- a view with one part weighs what that part weighs
-weigh_alone : (f : SeatEntry → ℕ) (v : SeatView) → v.others ≡ [] → weigh f v ≡ sum_by f v.own.notes
-weigh_alone f v alone =
-    let g : Part → ℕ = λ (p : Part). sum_by f p.notes in
-    let a : weigh f v ≡ g v.own + sum_by g v.others = sum_by-cons g v.own v.others in
-    let b : sum_by g v.others ≡ 0 = ap (λ (ps : List Part). sum_by g ps) alone in omega (arith, a, b)
 
 -- it released what it bore and retained
 abbrev IsEven : RootId → PoolSeat → Type 0
@@ -108,8 +38,8 @@ even : (pool : SharedPool) (lane : ℕ) (s : PoolSeat) → IsSpent pool lane s �
 even pool lane s is r =
     let v = view_of s in let alone = is.done.seat.alone in
     let a = gains r v.own.notes in let b = losses r v.own.notes in
-    let c = weigh_alone (on_this ref_gain r) v alone in let d = weigh_alone (on_this ref_loss r) v alone in
-    let e = weigh_alone (posts r) v alone in let f = is.lane_is.unposted r in let g = is.counted r in
+    let c = weigh_own (on_this ref_gain r) v alone in let d = weigh_own (on_this ref_loss r) v alone in
+    let e = weigh_own (posts r) v alone in let f = is.lane_is.unposted r in let g = is.counted r in
     omega (arith, a, b, c, d, e, f, g)
 
 -- ---- All seats.

@@ -1,12 +1,12 @@
 -- What each status says, from the input up to the words; and turned round, when a text must be written or refused.
-use Rattle.std.proofs.Common.{◌≡◌, ℕ, ◌+◌, ◌<◌, List, [], ◌∷◌, ◌++◌, length, map, string_bytes, refl, ap, sym, ◌∙◌, arith, Some, None, true, inl, inr, append-nil, length-append}
-use Rattle.std.specs.Prelude.{◌⊎◌, Option, String, nat_lt}
-use Rattle.std.specs.declared.alloc.Global.{Global}
-use Rattle.std.proofs.lemmas.Bool.{cases_lt}
+use Rattle.std.proofs.Common.{◌≡◌, ℕ, ◌<◌, List, [], length, refl, sym, ◌∙◌, arith, Some, None, true, inl, inr}
+use Rattle.std.specs.Prelude.{◌⊎◌, nat_lt}
 use Rattle.std.proofs.lemmas.Bool.Decides.{nat_tests}
+use Rattle.std.proofs.lemmas.Option.{none-some}
 use Rattle.text_ends.specs.Ends.{Rose}
 use Rattle.text_ends.specs.Spans.{SourceSpan, SinkSpan, IsTaken}
 use Rattle.text_ends.specs.Transfer.{ReadsText}
+use Rattle.text_ends.proofs.Readings.{told_reading}
 use Rattle.trace_text.specs.Reading.{text_limit}
 use Rattle.share_run.specs.declared.answer.Status.{Status}
 use Rattle.share_run.specs.declared.answer.Status.TheVariants.{Whole, Words, Input as NoInput, ReadFault, WriteFault, Memory}
@@ -47,32 +47,14 @@ of_source Memory words src out none e = (none, e)
 
 -- ---- Of a long text no more is read than shows that it is long.
 
-long_refused : (text : List ℕ) → text_limit < length text → input_of text ≡ None
+both_long : (a b : List ℕ) → text_limit < length a → text_limit < length b → input_of a ≡ input_of b
 unfolding input_of
-long_refused text long =
-    let test : nat_lt text_limit (length text) ≡ true = grind (arith, nat_tests) in
-    rw test refl
-
-same_reading : (left : List ℕ) (new : Option (List ℕ)) (text : List ℕ) → ReadsText (Some left) new text
-    → input_of text ≡ input_of left
-same_reading left None text h = absurd h.bytes
-same_reading left (Some rest) text h = elim (cases_lt text_limit (length text)) [
-  | inr short ↦
-      ap input_of (sym (h.bytes ∙ ap (λ (r : List ℕ). text ++ r) (h.whole short) ∙ append-nil text))
-  | inl long ↦
-      (let all : length left ≡ length text + length rest = ap (λ (xs : List ℕ). length xs) h.bytes
-      ∙ length-append text rest in
-      long_refused text long ∙ sym (long_refused left (omega (arith, all, long))))
-]
-
-told_reading : (left : Option (List ℕ)) (all : List ℕ) (new : Option (List ℕ)) (text : List ℕ) → left ≡ Some all
-    → ReadsText left new text → input_of text ≡ input_of all
-told_reading left all new text told h = same_reading all new text (rw told at h)
+both_long a b h k =
+    let x : nat_lt text_limit (length a) ≡ true = grind (arith, nat_tests) in
+    let y : nat_lt text_limit (length b) ≡ true = grind (arith, nat_tests) in
+    rw (x, y) refl
 
 -- ---- When a text must be written, and when refused.
-
-not_both : (o : Option Input) (input : Input) → o ≡ None → o ≡ Some input → ⊥
-not_both o input e f = cc
 
 by_source : (s : Status) (src : SourceSpan) (out : SinkSpan) (text : List ℕ) (input : Input)
     → ExplainsSource s src out → src.left ≡ Some text → (Rose src.faults src.faults_then → ⊥)
@@ -81,7 +63,7 @@ unfolding ExplainsInput ExplainsText ExplainsSource
 by_source Whole src out text input e told faults is taken = inl refl
 by_source Words src out text input (was, (reads, same, (found, (there, never)))) told faults is taken = absurd never
 by_source NoInput src out text input (was, (reads, same, (none, unwritten))) told faults is taken =
-    absurd (not_both (input_of was) input none (told_reading src.left text src.left_then was told reads ∙ is))
+    absurd (none-some input (sym none ∙ told_reading input_of both_long _ text _ was told reads ∙ is))
 by_source ReadFault src out text input (unwritten, rose) told faults is taken = absurd (faults rose)
 by_source WriteFault src out text input (was, (reads, same, (found, (there, cut)))) told faults is taken =
     elim cut.cause [ inl rose ↦ absurd (taken.faults rose) | inr rose ↦ absurd (taken.empty rose) ]
@@ -105,12 +87,12 @@ refused_source : (s : Status) (src : SourceSpan) (out : SinkSpan) (text : List �
     → (s ≡ NoInput) ⊎ (s ≡ Memory)
 unfolding ExplainsInput ExplainsText ExplainsSource
 refused_source Whole src out text (was, (reads, same, (found, (there, e)))) told faults none =
-    absurd (not_both (input_of was) found (told_reading src.left text src.left_then was told reads ∙ none) there)
+    absurd (none-some found (sym (told_reading input_of both_long _ text _ was told reads ∙ none) ∙ there))
 refused_source Words src out text (was, (reads, same, (found, (there, never)))) told faults none = absurd never
 refused_source NoInput src out text e told faults none = inl refl
 refused_source ReadFault src out text (unwritten, rose) told faults none = absurd (faults rose)
 refused_source WriteFault src out text (was, (reads, same, (found, (there, e)))) told faults none =
-    absurd (not_both (input_of was) found (told_reading src.left text src.left_then was told reads ∙ none) there)
+    absurd (none-some found (sym (told_reading input_of both_long _ text _ was told reads ∙ none) ∙ there))
 refused_source Memory src out text e told faults none = inr refl
 
 pub refuses : (s : Status) (words : List (List ℕ)) (src : SourceSpan) (out : SinkSpan) → Explains s words src out
@@ -124,8 +106,3 @@ refuses ReadFault words src out (why, e) text was none =
 refuses WriteFault words src out (why, e) text was none =
     refused_source WriteFault src out text e was.told was.faults none
 refuses Memory words src out e text was none = inr refl
-
--- no words have no bytes
-pub empty_words : (words : List (String Global)) → length words ≡ 0 → map string_bytes words ≡ []
-empty_words [] e = refl
-empty_words (w ∷ words) e = absurd (omega (arith, e))

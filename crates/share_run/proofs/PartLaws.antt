@@ -1,10 +1,11 @@
 -- How the parts of a composite come into the pool.
-use Rattle.std.proofs.Common.{◌≡◌, ℕ, zero, suc, ◌+◌, ◌*◌, ◌<◌, ◌≤◌, Bool, true, false, ◌&&◌, List, [], ◌∷◌, ◌++◌, length, map, take, get_or, refl, sym, ap, ◌∙◌, arith}
+use Rattle.std.proofs.Common.{◌≡◌, ℕ, zero, suc, ◌+◌, ◌*◌, ◌<◌, ◌≤◌, true, List, [], ◌∷◌, ◌++◌, length, map, take, get_or, refl, sym, ap, ◌∙◌, arith}
 use Rattle.std.specs.Prelude.{All, sum_by}
 use Rattle.std.specs.List.{list_all}
 use Rattle.std.proofs.lemmas.List.{map-append, take_more, take_all}
 use Rattle.std.proofs.lemmas.List.Elements.{All-nil, All-push}
 use Rattle.std.proofs.lemmas.List.Sums.{sum_by-append, sum_by-cons, sum-map}
+use Rattle.std.proofs.lemmas.Bool.{and_parts}
 use Rattle.pool_law.specs.declared.id.Part.{Part}
 use Rattle.pool_law.specs.declared.id.RootId.{RootId}
 use Rattle.pool_law.specs.declared.note.Did.{Did}
@@ -44,10 +45,6 @@ get_same (x ∷ xs) zero d e lt = refl
 get_same (x ∷ xs) (suc i) d e lt = get_same xs i d e (omega (arith, lt))
 
 -- ---- What is posted.
-
-and_parts : (b c : Bool) → (b && c) ≡ true → (b ≡ true) × (c ≡ true)
-and_parts true c e = (refl, e)
-and_parts false c e = absurd (cc e)
 
 quiet_did : (r : RootId) (did : Did) → is_quiet did ≡ true → did_post_of r did ≡ 0
 quiet_did r (Post parcel) e = absurd (cc e)

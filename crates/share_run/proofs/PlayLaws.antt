@@ -7,9 +7,7 @@ use Rattle.std.proofs.lemmas.List.{length-map}
 use Rattle.std.proofs.lemmas.List.Elements.{All-nil}
 use Rattle.std.proofs.lemmas.List.Sums.{sum_by-cons}
 use Rattle.std.proofs.lemmas.Option.{same_Some, slice_get-get_or, slice_get_within}
-use Rattle.pool_law.specs.declared.id.RootId.{RootId}
-use Rattle.pool_table.specs.declared.views.SeatView.{SeatView}
-use Rattle.pool_table.specs.Counts.{gained_of, lost_of, posts}
+use Rattle.pool_table.specs.Counts.{posts}
 use Rattle.shared_pool.specs.declared.pool.SharedPool.{SharedPool}
 use Rattle.shared_pool.specs.declared.seat.PoolSeat.{PoolSeat}
 use Rattle.shared_pool.specs.Opening.{AreOpened, IsOpened}
@@ -19,7 +17,7 @@ use Rattle.shared_composite.specs.declared.board.Board.{Board}
 use Rattle.shared_composite.specs.declared.board.BoardSeat.{BoardSeat}
 use Rattle.shared_composite.specs.declared.cores.Core.{Core}
 use Rattle.shared_composite.specs.Boards.{IsMadeOf}
-use Rattle.seat_work.proofs.FirstSeats.{opened_works}
+use Rattle.seat_work.proofs.FirstSeats.{fresh_counts, opened_works}
 use Rattle.share_text.specs.Inputs.{IsInput, IsFew, read_count, reader_limit}
 use Rattle.share_text.specs.Lines.{seen_in, seen_of, text_of, text_with}
 use Rattle.share_text.specs.declared.lines.Seen.{Seen}
@@ -84,14 +82,6 @@ text_is input seen old new released text written told have asked all =
     written ∙ (λ i. text_with (is i) (all i))
 
 -- ---- The seats of a new pool.
-
--- a view without notes counts no root
-fresh_counts : (v : SeatView) (root : RootId) → v.own.notes ≡ [] → v.others ≡ []
-    → (gained_of root v ≡ 0) × (lost_of root v ≡ 0)
-fresh_counts v root notes others =
-    subst (λ (u : SeatView). (gained_of root u ≡ 0) × (lost_of root u ≡ 0))
-    (λ i. record v { own = record { number = v.own.number; notes = sym notes i }; others = sym others i })
-    (refl, refl)
 
 fresh_seat : (pool : SharedPool) (lanes k : ℕ) (s : PoolSeat) → IsOpened (layout_of lanes) pool k s
     → IsFresh pool k s

@@ -89,11 +89,16 @@ fn finish<W: Wait>(rt: &W, pool: &SharedPool, mut core: Core, lane: u32, parts: 
 }
 
 /// Closes the pool, in which nothing is live: the close tells of each live root that is watched.
-pub fn close(alloc: Global, pool: SharedPool, seats: Vec<PoolSeat>) -> Result<(), AllocError>
+pub fn close<W: Wait>(
+    rt: &W,
+    alloc: Global,
+    pool: SharedPool,
+    seats: Vec<PoolSeat>,
+) -> Result<(), AllocError>
     requires many { vec_len seats ≡ pool.table.layout.shape.lanes }
     requires seats { AreSpent pool seats.items }
 {
-    match pool.close(alloc, seats) {
+    match pool.close(rt, alloc, seats) {
         Ok(end) => {
             let none_live = end.live.items().is_empty();
             prove!(none_live);

@@ -86,7 +86,7 @@ fn play_in_pool<R: Threads + Wait + Sync>(
                     rt, alloc, &pool, board, chief, &mut seats, composites, wholes, readers,
                     released,
                 );
-                close(alloc, pool, seats)
+                close(rt, alloc, pool, seats)
             }
             Err(cores) => {
                 give_up(cores, &mut seats);

@@ -1,16 +1,19 @@
 -- The parts of the seats with which a pool is closed, as the parts of one view.
-use Rattle.std.proofs.Common.{◌≡◌, ℕ, ◌+◌, ◌<◌, ◌≤◌, List, [], ◌∷◌, ◌++◌, append_assoc, map, sym, ap, ◌∙◌, subst, arith, Some}
-use Rattle.std.specs.Prelude.{All, reverse, slice_get, sum_by}
+use Rattle.std.proofs.Common.{◌≡◌, ℕ, ◌+◌, ◌<◌, ◌≤◌, List, [], ◌∷◌, ◌++◌, append_assoc, length, map, sym, refl, ap, ◌∙◌, subst, arith, get_or, Some}
+use Rattle.std.specs.Prelude.{All, HoldsAt, reverse, slice_get, sum_by}
 use Rattle.std.proofs.lemmas.Option.{slice_get_within, get_or_from_slice_get}
 use Rattle.std.proofs.lemmas.List.Elements.{All-cons, All-head, All-map, All-nil, All-tail}
 use Rattle.std.proofs.lemmas.List.{length-map, reverse-append, reverse-reverse}
 use Rattle.std.proofs.lemmas.List.Sums.{sum_by-cons}
+use Rattle.std.proofs.lemmas.Simd.{map-map}
 use mathlib.Core.Logic.{dite}
 use native.Mathlib.Decide.{ℕ_discrete, dec_le}
+use Rattle.atomic_table.specs.Seated.{TableId}
 use Rattle.pool_law.specs.declared.id.RootId.{RootId}
 use Rattle.pool_law.specs.declared.run.Shape.{Shape}
 use Rattle.shared_pool.specs.declared.seat.PoolSeat.{PoolSeat}
 use Rattle.pool_table.specs.declared.views.Entry.{Entry}
+use Rattle.pool_table.specs.declared.views.Layout.{Layout}
 use Rattle.pool_table.specs.declared.views.Part.{Part}
 use Rattle.pool_table.specs.declared.views.SeatView.{SeatView}
 use Rattle.pool_table.specs.Closed.{HasAllLanes}
@@ -19,12 +22,15 @@ use Rattle.pool_law.specs.declared.id.RegionId.{RegionId}
 use Rattle.history_laws.specs.NoteCounts.{is_taking}
 use Rattle.pool_table.specs.Hands.{HasTaking, at_in, at_out, taken, put_down, from_arena, to_arena, from_cache, to_cache, from_place, to_place, grasped, laid}
 use Rattle.shared_pool.specs.SeatViews.{view_of}
+use Rattle.pool_table.specs.Seats.{view_of as table_view}
 use Rattle.pool_table.specs.Views.{joined, parts_of}
 use Rattle.pool_table.specs.declared.table.PoolTable.{PoolTable}
 use Rattle.shared_pool.specs.declared.home.Home.{Home}
 use Rattle.shared_pool.specs.declared.pool.SharedPool.{SharedPool}
 use Rattle.shared_pool.specs.Closing.{AreLanes, HasNoPlace}
-use Rattle.shared_pool.specs.Joining.{IsApart, AreApart, arenas_known}
+use Rattle.shared_pool.specs.Joining.{IsApart, AreApart, AreFetchesOf, HaveFetches, arenas_known}
+use Rattle.shared_pool.specs.MailEnds.{IsReceiver, KnownEnds, receiver}
+use Rattle.shared_pool.specs.Mails.{AreFetches}
 use Rattle.shared_pool.specs.Seated.{HasNothing, IsDone, AreDone, parts_in}
 use Rattle.shared_pool.proofs.ClosingEntries.{from_at}
 use Rattle.shared_pool.proofs.ClosingMails.{lanes_all}
@@ -118,6 +124,21 @@ no_token (s ∷ ss) all r one none =
     (λ z. ih (omega (arith, a, z, one)) (omega (arith, b, none)))
     (λ ne. e.nothing.token r (omega (arith, a, b, one, none, ne)))
 
+-- seats of a pool whose seats of the table are the same have the same notes
+pub same_parts : (xs ys : List PoolSeat) → map (λ (s : PoolSeat). s.seat) xs ≡ map (λ (s : PoolSeat). s.seat) ys
+    → parts_in xs ≡ parts_in ys
+same_parts xs ys same =
+    sym (map-map (λ s. (table_view s).own) (λ (s : PoolSeat). s.seat) xs)
+    ∙ ap (λ ss. map (λ s. (table_view s).own) ss) same
+    ∙ map-map (λ s. (table_view s).own) (λ (s : PoolSeat). s.seat) ys
+
+-- and there are as many
+pub as_many : (xs ys : List PoolSeat) → map (λ (s : PoolSeat). s.seat) xs ≡ map (λ (s : PoolSeat). s.seat) ys
+    → length xs ≡ length ys
+as_many xs ys same =
+    sym (length-map xs (λ (s : PoolSeat). s.seat)) ∙ ap (λ ss. length ss) same
+    ∙ length-map ys (λ (s : PoolSeat). s.seat)
+
 -- a seat that may be joined
 abbrev pub IsReady : PoolTable Home → PoolSeat → Type 0
 IsReady table s = IsApart table s.seat
@@ -159,6 +180,27 @@ module _ (pool : SharedPool) (seats : List PoolSeat) (done : AreDone pool seats)
         settled = ap arenas_known d.settled
             ∙ ap (λ (n : ℕ). Some n) d.arenas;
       }))
+
+  -- each has its lane's ends of the mails
+  pub ends : HaveFetches pool.mails.items pool.layout.shape.lanes seats
+  ends lane lt s = subst
+      (λ (l : Layout). AreFetchesOf pool.mails.items l.shape.lanes lane (get_or seats lane s).fetches.items)
+      pool.same_layout
+      (fetches lane (subst (λ (l : Layout). lane < l.shape.lanes) (sym pool.same_layout) lt) s)
+    where
+      receives : (e : KnownEnds) (table : TableId) (from to room count : ℕ)
+          → e ≡ receiver table from to room count → IsReceiver e
+      receives e table from to room count is =
+          subst (λ (x : KnownEnds). x ≡ receiver x.table x.from x.to x.room x.received) (sym is) refl
+
+      fetches : (lane : ℕ) → lane < shape.lanes
+          → HoldsAt (λ (s : PoolSeat). AreFetchesOf pool.mails.items shape.lanes lane s.fetches.items) seats lane
+      fetches lane lt s from below pass m =
+          let d = done.each lane lt s in let same : d.seat.lane ≡ lane = cc (sym d.seat.number ∙ d.number) in
+          let its = get_or seats lane s in
+          let f = subst (λ (k : ℕ). AreFetches pool k (view_of its).own.notes its.fetches.items) same d.seat.fetches
+          from below pass m in
+          (f.0, receives _ _ _ _ _ _ f.1)
 
   empty_handed : All IsEmptyHanded seats
   empty_handed =

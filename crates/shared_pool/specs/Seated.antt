@@ -33,3 +33,9 @@ pub record AreDone (pool : SharedPool) (seats : List PoolSeat) : Type 0 where
 -- the notes that each of them made
 abbrev pub parts_in : List PoolSeat → List Part
 parts_in seats = map (λ s. (view_of s).own) seats
+
+-- these are such seats, but that letters of their mails may have been taken out since
+pub record WereDone (pool : SharedPool) (seats : List PoolSeat) : Type 0 where
+  pub before : List PoolSeat
+  pub done : AreDone pool before
+  pub same : map (λ (s : PoolSeat). s.seat) before ≡ map (λ (s : PoolSeat). s.seat) seats

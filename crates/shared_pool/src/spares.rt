@@ -3,7 +3,7 @@
 ghost use Rattle.std.specs.Prelude.{◌≡◌, ◌*◌, ◌<◌, ◌≤◌, [], ◌++◌, length, All, IfOk, vec_capacity};
 ghost use Rattle.pool_law.specs.Arenas.{listed};
 ghost use Rattle.pool_law.specs.Limits.{IsShape};
-ghost use Rattle.shared_pool.specs.Rooms.{IsSpare};
+ghost use Rattle.shared_pool.specs.Rooms.{IsSpare, IsRoomFor};
 
 use leak_records::LiveRoot;
 use pool_law::{Access, ChunkEnd, Shape};
@@ -25,12 +25,7 @@ impl Spares {
     /// Takes it.
     pub(crate) fn reserve(alloc: Global, shape: &Shape) -> Result<Spares, AllocError>
         requires { IsShape shape.now }
-        ensures chunks { IfOk result (λ r. (r.chunks.items ≡ [])
-            × (shape.now.arenas * shape.now.chunks ≤ vec_capacity r.chunks)) }
-        ensures live { IfOk result (λ r. (r.live.items ≡ [])
-            × (shape.now.lanes * shape.now.handles ≤ vec_capacity r.live)) }
-        ensures records { IfOk result (λ r. All IsSpare r.records.items
-            × (length r.records.items ≡ shape.now.lanes * shape.now.handles)) }
+        ensures { IfOk result (λ room. IsRoomFor room shape.now) }
     {
         let places = shape.lanes * shape.handles;
         let chunks = Vec::with_capacity(alloc, (shape.arenas * shape.chunks) as usize)?;

@@ -8,13 +8,13 @@ use Rattle.frame_cut.proofs.LiveLaws.{done_alone, none_live}
 use Rattle.frame_cut.proofs.closing.close.Goals as goal
 
 pub returns-in-Ok-clause-live : goal.returns-in-Ok-clause-live
-returns-in-Ok-clause-live c =
+returns-in-Ok-clause-live g c =
     let pool = c.args.pool in let seats = c.args.seats.items in
     none_live pool.table.layout.shape seats c.in-Ok.ensures.whole (done_alone pool seats c.requires.done)
     c.requires.spent
 
 pub abandon-requires : goal.abandon-requires
-abandon-requires c =
+abandon-requires g c =
     let e = c.in-Err.ensures.err in
     record {
       seats =

@@ -23,7 +23,7 @@ alone pool l shape lane number finished =
     }
 
 pub finish-requires-clause-lanes : goal.finish-requires-clause-lanes
-finish-requires-clause-lanes c =
+finish-requires-clause-lanes g c =
     let q = c.requires in
     let empty : c.in-Ok.lanes.items ≡ [] = first_of (search rules, grind (arith, common_steps)) in
     subst (AreFinished c.args.pool)

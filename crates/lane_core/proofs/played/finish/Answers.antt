@@ -21,27 +21,27 @@ use Rattle.lane_core.proofs.PlayedStops.{are-heeded}
 use Rattle.lane_core.proofs.played.finish.Goals as goal
 
 pub abandon_all-requires-clause-seats : goal.abandon_all-requires-clause-seats
-abandon_all-requires-clause-seats c = λ k d lt.
+abandon_all-requires-clause-seats g c = λ k d lt.
     (lane_context c.args.pool _ (c.requires.lanes.each k (omega (arith, lt, c.requires.lanes.many)) d).lane).seat
 
 pub part-commands-requires-clause-finished : goal.part-commands-requires-clause-finished
-part-commands-requires-clause-finished c = λ k d lt.
+part-commands-requires-clause-finished g c = λ k d lt.
     (c.requires.lanes.each k (omega (arith, lt, c.requires.lanes.many)) d).finished
 
 pub part-commands-requires-clause-spare : goal.part-commands-requires-clause-spare
-part-commands-requires-clause-spare c = λ k d lt.
+part-commands-requires-clause-spare g c = λ k d lt.
     let at = c.requires.lanes.each k (omega (arith, lt, c.requires.lanes.many)) d in
     lane_spare c.args.pool _ (length c.args.lanes.items) at.lane c.requires.lanes.many
 
 pub close-requires : goal.close-requires
-close-requires c = record {
+close-requires g c = record {
   seats =
       subst (λ ss. AreDone c.args.pool ss) (sym c.part-commands.ensures.seats)
       (seats-done c.args.pool c.args.lanes.items c.requires.lanes);
 }
 
 pub abandon-requires : goal.abandon-requires
-abandon-requires c =
+abandon-requires g c =
     let back = (c.in-Err.ensures {u = tt}).err in
     record {
       seats =
@@ -55,7 +55,7 @@ abandon-requires c =
     }
 
 pub invariant_of-result : goal.invariant_of-result
-invariant_of-result c =
+invariant_of-result g c =
     let pool = c.args.pool in let lanes = c.args.lanes.items in let shape = c.args.pool.table.layout.shape in
     let end = c.in-Ok-close.end in let seats = c.part-commands.ensures.seats in
     let run : Run = record {
@@ -77,9 +77,9 @@ invariant_of-result c =
     c.in_ok-leaks.ensures
 
 pub returns-clause-run : goal.returns-clause-run
-returns-clause-run c = first_of (search rules, grind (arith, common_steps))
+returns-clause-run g c = first_of (search rules, grind (arith, common_steps))
 
 pub returns-clause-heeds : goal.returns-clause-heeds
-returns-clause-heeds c =
+returns-clause-heeds g c =
     are-heeded c.args.pool c.args.lanes.items c.args.shape.now _ c.requires.shape c.requires.lanes
-    (returns-clause-run c)
+    (returns-clause-run g c)

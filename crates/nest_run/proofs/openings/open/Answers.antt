@@ -1,19 +1,8 @@
-use Rattle.std.proofs.Common.{◌≡◌, List, [], ◌∷◌, ◌++◌, length, ap, subst, arith, length-append}
-use Rattle.std.specs.Prelude.{HoldsAt}
+use Rattle.std.proofs.Common.{arith}
 use Rattle.shared_pool.specs.Opening.{IsOpened}
+use Rattle.shared_pool.proofs.Trials.{only_one}
 use Rattle.nest_run.specs.declared.openings.TheConstants.{LAYOUT}
 use Rattle.nest_run.proofs.openings.open.Goals as goal
-
--- the last of one element
-only_one : {X : Type 0} (P : X → Type 0) (items rest : List X) (a : X) → length items ≡ 1 → items ≡ rest ++ a ∷ []
-    → HoldsAt P items 0 → P a
-only_one {X} P items rest a many e each = go rest e
-  where
-    go : (rest : List X) → items ≡ rest ++ a ∷ [] → P a
-    go [] is = subst (λ (l : List X). HoldsAt P l 0) is each a
-    go (x ∷ xs) is =
-        let n = ap (λ (l : List X). length l) is in let u = length-append (x ∷ xs) (a ∷ []) in
-        absurd (omega (arith, n, u, many))
 
 pub returns-clause-seat : goal.returns-clause-seat
 returns-clause-seat c =

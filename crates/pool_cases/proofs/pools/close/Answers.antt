@@ -5,7 +5,7 @@ use Rattle.shared_pool.specs.Seats.{IsPoolSeat}
 use Rattle.pool_cases.proofs.pools.close.Goals as goal
 
 pub abandon-requires : goal.abandon-requires
-abandon-requires c =
+abandon-requires g c =
     let same = c.in-Err.ensures.err in
     record {
       seats = λ k d below.

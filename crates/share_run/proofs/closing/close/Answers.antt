@@ -9,13 +9,13 @@ use Rattle.share_run.proofs.LiveLaws.{none_live}
 use Rattle.share_run.proofs.closing.close.Goals as goal
 
 pub close-requires : goal.close-requires
-close-requires c =
+close-requires g c =
     let many : length c.args.seats.items ≡ c.args.pool.table.layout.shape.lanes =
     (let a = c.requires.many in let b = c.args.seats.ok.0 in omega (arith, a, b)) in
     record { seats = spent_done c.args.pool c.args.seats.items many c.requires.seats }
 
 pub prove-unreachable-requires : goal.prove-unreachable-requires
-prove-unreachable-requires c =
+prove-unreachable-requires g c =
     let pool = c.args.pool in let e = c.in-Ok.ensures in
     let none = none_live pool pool.table.layout.shape c.args.seats.items c.requires.seats e.whole c.in-Ok.end.live
     e.live in
@@ -24,7 +24,7 @@ prove-unreachable-requires c =
     cc (sym empty ∙ c.if-prove.true)
 
 pub abandon-requires : goal.abandon-requires
-abandon-requires c =
+abandon-requires g c =
     let e = c.in-Err.ensures.err in
     record {
       seats =

@@ -1,5 +1,6 @@
 use Rattle.std.proofs.Common.{rules}
-use Rattle.share_run.proofs.OutcomeLaws.{of_source, empty_words}
+use Rattle.text_ends.proofs.Readings.{empty_words}
+use Rattle.share_run.proofs.OutcomeLaws.{of_source}
 use Rattle.share_run.proofs.run.status_of.Goals as goal
 
 pub returns-then-is_empty-clause-outcome : goal.returns-then-is_empty-clause-outcome

@@ -1,4 +1,4 @@
-use Rattle.std.proofs.Common.{◌≡◌, ℕ, List, refl, ap, ◌∙◌, subst, arith, Option, Some}
+use Rattle.std.proofs.Common.{◌≡◌, List, refl, ap, ◌∙◌, subst, arith, Option, Some}
 use Rattle.std.specs.Prelude.{slice_set}
 use Rattle.pool_law.specs.declared.id.ViewData.{ViewData}
 use Rattle.pool_law.specs.declared.run.Reply.{Reply}
@@ -12,15 +12,8 @@ use Rattle.lane_core.specs.ContextSteps.{Concludes}
 use Rattle.lane_core.proofs.AllotTurns.{allot_goes, allot_waits, allot_new, allot_refused}
 use Rattle.lane_core.proofs.StageNeeds.{may_allot, few_births, log_room}
 use Rattle.lane_core.proofs.ClassSizes.{size_most}
-use Rattle.lane_core.proofs.AllocTurns.{allot_can, new_place, new_alone, new_few, new_name}
+use Rattle.lane_core.proofs.AllocTurns.{allot_can, counted_so, new_place, new_alone, new_few, new_name}
 use Rattle.lane_core.proofs.context.Context.allot.Goals as goal
-
--- the context behind a step, with the count that was kept before
-counted_so : (old : Context) (seat : _) (sampler : _) (notes : _) (m n : ℕ) → m ≡ n
-    → record old { seat = seat; sampler = sampler; notes = notes; asked = m }
-    ≡ record old { seat = seat; sampler = sampler; notes = notes; asked = n }
-counted_so old seat sampler notes m n is =
-    ap (λ (k : ℕ). record old { seat = seat; sampler = sampler; notes = notes; asked = k }) is
 
 pub asked_with-self-requires : goal.asked_with-self-requires
 asked_with-self-requires c = let a = c.requires.fits.2 in omega (arith, a)

@@ -1,4 +1,4 @@
-use Rattle.std.proofs.Common.{◌≡◌, ℕ, refl, ap, ◌∙◌, subst, arith}
+use Rattle.std.proofs.Common.{refl, ◌∙◌, subst, arith}
 use Rattle.pool_law.specs.declared.command.Command.{Command}
 use Rattle.pool_law.specs.declared.run.Reply.{Reply}
 use Rattle.lane_core.specs.declared.context.Context.{Context}
@@ -6,18 +6,11 @@ use Rattle.lane_core.specs.declared.allotment.Allots.{Allots}
 use Rattle.lane_core.specs.declared.allotment.Allots.TheVariants.{NoHandle, Full}
 use Rattle.lane_core.specs.Allotments as allotment
 use Rattle.lane_core.specs.Contexts.{HasRoomFor}
-use Rattle.lane_core.proofs.AllocTurns.{allot_can, new_place, new_alone, new_few}
+use Rattle.lane_core.proofs.AllocTurns.{allot_can, counted_so, new_place, new_alone, new_few}
 use Rattle.lane_core.proofs.ConsolidateLaws.{room_beside}
 use Rattle.lane_core.proofs.ConsolidateTurns.{consolidate_goes, consolidate_waits, consolidate_new, consolidate_refused}
 use Rattle.lane_core.proofs.StageNeeds.{may_allot, few_births, log_room}
 use Rattle.lane_core.proofs.context.Context.consolidate.Goals as goal
-
--- the context behind a step, with the count that was kept before
-counted_so : (old : Context) (seat : _) (sampler : _) (notes : _) (m n : ℕ) → m ≡ n
-    → record old { seat = seat; sampler = sampler; notes = notes; asked = m }
-    ≡ record old { seat = seat; sampler = sampler; notes = notes; asked = n }
-counted_so old seat sampler notes m n is =
-    ap (λ (k : ℕ). record old { seat = seat; sampler = sampler; notes = notes; asked = k }) is
 
 pub asked_with-self-requires : goal.asked_with-self-requires
 asked_with-self-requires c =

@@ -1,5 +1,4 @@
-use Rattle.std.proofs.Common.{◌≡◌, ℕ, List, ◌++◌, refl, sym, subst, ◌∙◌, ap, length, take, drop, arith}
-use Rattle.std.proofs.Math.Seq.{take-append_seam}
+use Rattle.std.proofs.Common.{ℕ, List, refl, sym, subst, ◌∙◌, arith}
 use Rattle.nest_run.specs.declared.replies.Reply.TheVariants.{Read}
 use Rattle.counted_view.specs.Nests.{held_view}
 use Rattle.nest_run.specs.declared.calls.Call.TheVariants.{Get}
@@ -9,11 +8,8 @@ use Rattle.nest_run.specs.Standing.{IsPlayed}
 use Rattle.nest_run.proofs.AccessLaws.{may_access, may_work, get_played}
 use Rattle.nest_run.proofs.RefusalLaws.{get_refused}
 use Rattle.nest_run.proofs.StepLaws.{range_not_full}
+use Rattle.text_ends.proofs.Bytes.{front_copied}
 use Rattle.nest_run.proofs.views.Play.get.Goals as goal
-
--- the whole of what was written to the front
-whole_front : (out rest : List ℕ) (n : ℕ) → length out ≡ n → take n (out ++ rest) ≡ out
-whole_front out rest n e = ap (λ (k : ℕ). take k (out ++ rest)) (sym e) ∙ take-append_seam out rest
 
 pub refused-requires : goal.refused-requires
 refused-requires g c =
@@ -31,7 +27,7 @@ returns-in_ok-bytes-in-Ok-clause-ok g c =
     let new : Play = record { seat = c.get.new.seat; nest = old.nest; root = old.root } in
     let long = c.get.ensures.len ∙ c.as_mut_slice.ensures.len ∙ c.in_ok-bytes-in-Ok.ensures.len in
     subst (λ (xs : List ℕ). IsPlayed pool (Get c.args.of c.args.at c.args.len) old (Read xs) new)
-    (sym (c.of.ensures ∙ whole_front c.get.new.out _ _ (c.get.ensures.len ∙ c.as_mut_slice.ensures.len)))
+    (sym (c.of.ensures ∙ front_copied c.get.new.out _ _ (c.get.ensures.len ∙ c.as_mut_slice.ensures.len)))
     (get_played pool old new c.requires refl refl c.get.ensures.proceeds c.args.of c.args.at c.in-Ok.offset c.in-Ok._len
     c.args.len c.get.new.out c.get.ensures.noted long e.answers e.range)
 

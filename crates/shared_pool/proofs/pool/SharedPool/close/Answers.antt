@@ -1,82 +1,32 @@
-use Rattle.std.proofs.Common.{◌≡◌, ◌*◌, List, length, sym, ap, ◌∙◌, subst, arith}
-use Rattle.std.specs.Prelude.{Option}
+use Rattle.std.proofs.Common.{List, ap, sym, subst, ◌∙◌}
 use Rattle.size_classes.specs.Sizes.{below}
-use Rattle.leak_records.specs.declared.live.LiveRoot.{LiveRoot}
-use Rattle.pool_table.specs.declared.views.Layout.{Layout}
-use Rattle.pool_table.specs.Seats.{view_of}
-use Rattle.shared_pool.specs.declared.home.Home.{Home}
-use Rattle.shared_pool.specs.Emptying.{left_of, AreOut}
-use Rattle.shared_pool.specs.Ends.{AreArenas, ArePlaces, chunks_from, told_from}
+use Rattle.pool_law.specs.Legal.{ends_from}
+use Rattle.pool_table.specs.declared.views.Part.{Part}
+use Rattle.shared_pool.specs.declared.mail.Mail.{Mail}
+use Rattle.shared_pool.specs.Closing.{AreWhole, logs_in}
+use Rattle.shared_pool.specs.Joining.{HaveFetches}
 use Rattle.shared_pool.specs.Live.{AreLiveRoots}
-use Rattle.shared_pool.specs.Seated.{parts_in}
-use Rattle.shared_pool.proofs.ClosedPool.{arenas, places, whole, chunks, live, out}
-use Rattle.shared_pool.proofs.Emptyings.{written}
-use Rattle.shared_pool.proofs.JoinedParts.{all_lanes, apart}
+use Rattle.shared_pool.proofs.JoinedParts.{ends, same_parts}
 use Rattle.shared_pool.proofs.pool.SharedPool.close.Goals as goal
 
-pub joined-seat-requires-clause-apart : goal.joined-seat-requires-clause-apart
-joined-seat-requires-clause-apart c = apart c.args.self c.args.seats.items c.requires.seats
-
-pub close_with-homes-requires-clause-all : goal.close_with-homes-requires-clause-all
-close_with-homes-requires-clause-all c =
-    all_lanes c.args.self c.args.seats.items c.requires.seats (view_of c.joined-seat.result) c.joined-seat.ensures.parts
-
-pub chunk_ends-chunks-requires-clause-arenas : goal.chunk_ends-chunks-requires-clause-arenas
-chunk_ends-chunks-requires-clause-arenas c =
-    subst (λ (y : Layout × List (Option Home)). AreArenas y.0.shape y.1)
-    (λ i. (c.args.self.same_layout i, sym c.deref.ensures.value i))
-    (arenas c.args.self c.args.seats.items c.requires.seats (view_of c.joined-seat.result) c.joined-seat.ensures.parts
-    c.joined-seat.ensures.settled c.close_with-homes.result.0.items c.close_with-homes.result.1.items
-    c.close_with-homes.ensures)
-
-pub live_roots-live-requires-clause-places : goal.live_roots-live-requires-clause-places
-live_roots-live-requires-clause-places c =
-    subst (λ (y : Layout × List (Option Home)). ArePlaces y.0.shape y.1)
-    (λ i. (c.args.self.same_layout i, sym c.deref_mut.ensures.value i))
-    (places c.args.self c.args.seats.items c.requires.seats (view_of c.joined-seat.result) c.joined-seat.ensures.parts
-    c.joined-seat.ensures.settled c.close_with-homes.result.0.items c.close_with-homes.result.1.items
-    c.close_with-homes.ensures)
+pub empty_mails-requires-clause-ends : goal.empty_mails-requires-clause-ends
+empty_mails-requires-clause-ends g c =
+    subst (λ (mails : List Mail). HaveFetches mails c.args.self.layout.shape.lanes c.args.seats.items)
+    (sym c.deref.ensures.value) (ends c.args.self c.args.seats.items c.requires.seats)
 
 pub returns-clause-whole : goal.returns-clause-whole
-returns-clause-whole c =
-    whole c.args.self c.args.seats.items c.requires.seats (view_of c.joined-seat.result) c.joined-seat.ensures.parts
-    c.joined-seat.ensures.settled c.close_with-homes.result.0.items c.close_with-homes.result.1.items
-    c.close_with-homes.ensures
+returns-clause-whole g c =
+    subst (AreWhole c.args.self.table.layout.shape)
+    (same_parts c.empty_mails.new.seats.items c.args.seats.items c.empty_mails.ensures.same) c.close_in.ensures.whole
 
 pub returns-clause-chunks : goal.returns-clause-chunks
-returns-clause-chunks c =
-    c.of.ensures ∙ c.chunk_ends-chunks.ensures
-    ∙ (λ i. chunks_from (c.deref.ensures.value i) (below (sym c.args.self.same_layout i).shape.arenas))
-    ∙ chunks c.args.self c.args.seats.items c.requires.seats (view_of c.joined-seat.result) c.joined-seat.ensures.parts
-    c.joined-seat.ensures.settled c.close_with-homes.result.0.items c.close_with-homes.result.1.items
-    c.close_with-homes.ensures
+returns-clause-chunks g c =
+    let shape = c.args.self.table.layout.shape in
+    c.close_in.ensures.chunks
+    ∙ ap (λ (ps : List Part). ends_from shape (logs_in ps) (below shape.arenas))
+    (same_parts c.empty_mails.new.seats.items c.args.seats.items c.empty_mails.ensures.same)
 
 pub returns-clause-live : goal.returns-clause-live
-returns-clause-live c =
-    let layout : c.args.self.layout ≡ c.args.self.table.layout = sym c.args.self.same_layout in
-    let is : c.of-2.result ≡ told_from c.args.self.table.layout.shape c.close_with-homes.result.0.items
-    c.close_with-homes.result.1.items
-    (below (c.args.self.table.layout.shape.lanes * c.args.self.table.layout.shape.handles)) =
-    c.of-2.ensures ∙ c.live_roots-live.ensures.live
-    ∙ (λ i. told_from (layout i).shape (c.deref_mut.ensures.value i) (c.deref-2.ensures.value i)
-    (below ((layout i).shape.lanes * (layout i).shape.handles))) in
-    subst (λ (xs : List LiveRoot). AreLiveRoots (parts_in c.args.seats.items) xs) (sym is)
-    (live c.args.self c.args.seats.items c.requires.seats (view_of c.joined-seat.result) c.joined-seat.ensures.parts
-    c.joined-seat.ensures.settled c.close_with-homes.result.0.items c.close_with-homes.result.1.items
-    c.close_with-homes.ensures)
-
-pub close_arenas-requires-clause-out : goal.close_arenas-requires-clause-out
-close_arenas-requires-clause-out c =
-    let homes : List (Option Home) = c.close_with-homes.result.0.items in
-    let same : c.live_roots-live.new.homes ≡ homes = c.live_roots-live.ensures.same ∙ c.deref_mut.ensures.value in
-    let long = ap (λ (xs : List (Option Home)). length xs) same in let many = c.close_with-homes.result.0.ok.0 in
-    subst (λ (y : Layout × List (Option Home)). AreOut y.0.shape.arenas y.1 (left_of y.1))
-    (λ i. (
-      c.args.self.same_layout i,
-      sym
-          (written c.close_with-homes.result.0.len c.live_roots-live.new.homes homes (omega (arith, long, many)) ∙ same)
-          i,
-    ))
-    (out c.args.self c.args.seats.items c.requires.seats (view_of c.joined-seat.result) c.joined-seat.ensures.parts
-    c.joined-seat.ensures.settled c.close_with-homes.result.0.items c.close_with-homes.result.1.items
-    c.close_with-homes.ensures)
+returns-clause-live g c =
+    subst (λ (ps : List Part). AreLiveRoots ps c.close_in.result.live)
+    (same_parts c.empty_mails.new.seats.items c.args.seats.items c.empty_mails.ensures.same) c.close_in.ensures.live
