@@ -3,6 +3,7 @@ use Rattle.std.proofs.Common.{◌≡◌, ℕ, zero, suc, ◌+◌, ◌<◌, ◌�
 use Rattle.std.specs.Prelude.{is_some, option_and_then}
 use Rattle.std.proofs.lemmas.List.{length-map, length-take-le, take-map, take-take, take_all}
 use Rattle.std.proofs.lemmas.List.Elements.{All-weaker}
+use Rattle.std.proofs.lemmas.Bool.{cases_lt}
 use Rattle.pool_law.specs.declared.note.Did.{Did}
 use Rattle.pool_law.specs.declared.note.Object.{Object}
 use Rattle.pool_law.specs.declared.note.Object.TheVariants.{Arena, Cache, Bin, Mail, Root}
@@ -11,7 +12,6 @@ use Rattle.pool_law.specs.Logs.{Logs, History, dids, of_lane, own, has_history, 
 use Rattle.pool_law.specs.Histories.{after, accepts}
 use Rattle.run_check.specs.Fronts.{IsFront, HistoryHoldsTo, HoldsTo, IsBrokenAt, StopsAt, AcceptsSoMany}
 use Rattle.run_check.specs.Storing.{ObjectHolds}
-use Rattle.run_check.proofs.LaneLemmas.{below-or}
 use Rattle.run_check.proofs.FrontLemmas.{front-of, fronts-agree}
 
 -- a front of notes that are accepted is accepted
@@ -53,7 +53,7 @@ accepts-less shape object ds n so_many refused =
     let both : true ≡ false =
     sym so_many.accepted ∙ ap (accepts shape object) (take_all n ds past) ∙ refused in
     absurd (cc both))
-    (below-or n (length ds))
+    (cases_lt n (length ds))
 
 -- an object with a history holds up to a number as its history does
 holds-to : (shape : Shape) (logs : Logs) (object : Object) (n : ℕ) → has_history object ≡ true →

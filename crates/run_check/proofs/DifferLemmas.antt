@@ -2,18 +2,14 @@
 use Rattle.std.proofs.Common.{◌≡◌, ℕ, zero, suc, ◌<◌, ◌≤◌, List, [], ◌∷◌, ◌++◌, length, get_or, take, Some, None, ⊎_elim, refl, sym, subst, arith, ◌∙◌}
 use Rattle.std.specs.Prelude.{min, slice_get}
 use Rattle.std.proofs.lemmas.List.{take_at, take_all, length-take-le}
+use Rattle.std.proofs.lemmas.Bool.{cases_lt}
 use Rattle.run_check.specs.Placing.{DifferAt}
-use Rattle.run_check.proofs.LaneLemmas.{below-or}
+use Rattle.pool_law.proofs.ListLemmas.{slice_get-past}
 
 pub get-there : {X : Type 0} (xs : List X) (i : ℕ) (d : X) → i < length xs → slice_get xs i ≡ Some (get_or xs i d)
 get-there [] i d there = absurd (omega (arith, there))
 get-there (x ∷ xs) zero d there = refl
 get-there (x ∷ xs) (suc i) d there = get-there xs i d (omega (arith, there))
-
-pub get-past : {X : Type 0} (xs : List X) (i : ℕ) → length xs ≤ i → slice_get xs i ≡ None
-get-past [] i past = refl
-get-past (x ∷ xs) zero past = absurd (omega (arith, past))
-get-past (x ∷ xs) (suc i) past = get-past xs i (omega (arith, past))
 
 get-seam : {X : Type 0} (xs : List X) (y : X) (ys : List X) → slice_get (xs ++ y ∷ ys) (length xs) ≡ Some y
 get-seam [] y ys = refl
@@ -44,11 +40,11 @@ differ-lengths xs ys n least same other = record {
   unlike = λ e.
       ⊎_elim
       (λ less.
-      there-some ys n (omega (arith, least, less)) (sym e ∙ get-past xs n (omega (arith, least, less))))
+      there-some ys n (omega (arith, least, less)) (sym e ∙ slice_get-past xs n (omega (arith, least, less))))
       (λ more.
       let past : length ys ≤ n = omega (arith, least, more) in
-      there-some xs n (omega (arith, least, more, other)) (e ∙ get-past ys n past))
-      (below-or (length xs) (length ys));
+      there-some xs n (omega (arith, least, more, other)) (e ∙ slice_get-past ys n past))
+      (cases_lt (length xs) (length ys));
 }
 
 pub differ-longer : {X : Type 0} (xs : List X) (at : ℕ) → at < length xs → DifferAt xs (take at xs) at
@@ -56,7 +52,7 @@ differ-longer xs at inside =
     let long : length (take at xs) ≡ at = length-take-le at xs (omega (arith, inside)) in
     record {
       same = sym (take_all at (take at xs) (omega (arith, long)));
-      unlike = λ e. there-some xs at inside (e ∙ get-past (take at xs) at (omega (arith, long)));
+      unlike = λ e. there-some xs at inside (e ∙ slice_get-past (take at xs) at (omega (arith, long)));
     }
 
 -- two lists of which all of the one is all of the other
@@ -64,6 +60,3 @@ pub same-whole : {X : Type 0} (xs ys : List X) (n : ℕ) → length xs ≡ lengt
     take n xs ≡ take n ys → xs ≡ ys
 same-whole xs ys n as_many past same =
     sym (take_all n xs past) ∙ same ∙ take_all n ys (omega (arith, as_many, past))
-
-pub same-some : {X : Type 0} (x y : X) → Some x ≡ Some y → x ≡ y
-same-some x y e = cc

@@ -1,17 +1,11 @@
 -- What is asked of a list from a state on, one item at a time, and the first place where it isn't so.
-use Rattle.std.proofs.Common.{◌≡◌, ℕ, zero, suc, ◌+◌, ◌<◌, List, [], ◌∷◌, ◌++◌, length, map, take, drop, append_assoc, add-one, length-drop, sym, ap, subst, arith, ◌∙◌}
+use Rattle.std.proofs.Common.{◌≡◌, ℕ, suc, ◌+◌, ◌<◌, List, [], ◌∷◌, ◌++◌, length, map, take, drop, append_assoc, add-one, length-drop, sym, ap, subst, arith, ◌∙◌}
 use Rattle.std.proofs.lemmas.List.{take_all, take-append-drop, take-map, length-map}
 use Rattle.pool_law.proofs.HistoryLemmas.{append-nil}
 use Rattle.pool_law.specs.Logs.{of_lane}
+use Rattle.lane_reader.proofs.ReadingLemmas.{take-next}
 use Rattle.run_check.specs.declared.breach.NoteSpot.{NoteSpot}
 use Rattle.run_check.specs.Placing.{BreaksAt, BreaksFirst}
-
-take-next : {X : Type 0} (xs : List X) (i : ℕ) (x : X) (ys : List X) → drop i xs ≡ x ∷ ys →
-    take (suc i) xs ≡ take i xs ++ x ∷ []
-take-next [] zero x ys e = absurd (cc e)
-take-next [] (suc i) x ys e = absurd (cc e)
-take-next (z ∷ xs) zero x ys e = let same : z ≡ x = cc e in ap (λ y. y ∷ []) same
-take-next (z ∷ xs) (suc i) x ys e = ap (λ zs. z ∷ zs) (take-next xs i x ys e)
 
 next-inside : {X : Type 0} (xs : List X) (i : ℕ) (x : X) (ys : List X) → drop i xs ≡ x ∷ ys → i < length xs
 next-inside xs i x ys e =

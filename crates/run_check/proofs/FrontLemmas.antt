@@ -2,7 +2,7 @@
 use Rattle.std.proofs.Common.{◌≡◌, ℕ, zero, suc, ◌+◌, ◌-◌, ◌<◌, ◌≤◌, Bool, true, false, List, [], ◌∷◌, ◌++◌, length, take, drop, length-drop, eqb-true, ⊎_elim, refl, sym, ap, subst, arith, ◌∙◌}
 use Rattle.std.specs.Prelude.{◌==◌}
 use Rattle.std.specs.List.{All}
-use Rattle.std.proofs.lemmas.Bool.{cond_both}
+use Rattle.std.proofs.lemmas.Bool.{cases_lt, cond_both}
 use Rattle.std.proofs.lemmas.List.{append_cancel_left, length-take-le, take-take}
 use Rattle.std.proofs.lemmas.List.Elements.{All-nil, All-cons, All-head, All-same, All-append, All-weaker}
 use Rattle.pool_law.specs.declared.note.Did.{Did}
@@ -10,7 +10,6 @@ use Rattle.pool_law.specs.Logs.{History, numbered}
 use Rattle.pool_law.proofs.HistoryLemmas.{append-assoc, append-nil, one_if, numbered-step}
 use Rattle.run_check.specs.Gathering.{AreNumbered, HasNext, IsStuck}
 use Rattle.run_check.specs.Fronts.{IsFront, StopsAt}
-use Rattle.run_check.proofs.LaneLemmas.{below-or}
 use Rattle.run_check.proofs.LeastLemmas.{All-behind}
 use Rattle.run_check.proofs.MergeLemmas.{numbered-own, numbered-other, did_first}
 use Rattle.run_check.proofs.MergingLemmas.{SoFar, so-far-stuck}
@@ -203,5 +202,5 @@ module _ (all left : ℕ → List (ℕ × Did)) (h : History) (number least : �
         ⊎_elim
         (λ lesser. twice lesser (there lesser) g long front)
         (λ all_later. next-missing all_later stuck g long front)
-        (below-or least number);
+        (cases_lt least number);
   }

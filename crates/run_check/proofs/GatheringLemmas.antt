@@ -1,6 +1,6 @@
 -- What is left of a lane, from behind a reference.
 use Rattle.std.proofs.Common.{◌≡◌, ℕ, zero, suc, ◌<◌, ◌≤◌, List, [], ◌∷◌, length, get_or, ⊎_elim, refl, sym, ap, subst, arith}
-use Rattle.std.specs.Prelude.{◌⊎◌}
+use Rattle.std.proofs.lemmas.Bool.{cases_lt}
 use denote.Ref.{Bor}
 use Rattle.pool_law.specs.declared.note.Did.{Did}
 use Rattle.run_check.specs.declared.gathering.HistoryNote.{HistoryNote}
@@ -17,9 +17,6 @@ left-past [] lane past = refl
 left-past (x ∷ left) zero past = absurd (omega (arith, past))
 left-past (x ∷ left) (suc lane) past = left-past left lane (omega (arith, past))
 
-below-or : (a b : ℕ) → (a < b) ⊎ (b ≤ a)
-below-or a b = grind arith
-
 -- where no lane that is there has the number, none has
 pub none-has : (left : List (Bor (List HistoryNote))) (number n : ℕ) →
     ((k : ℕ) → k < n → HasNext number (left_of left k) → ⊥) → length left ≤ n → IsStuck number (left_of left)
@@ -27,4 +24,4 @@ none-has left number n below all lane has =
     ⊎_elim
     (λ inside. below lane (omega (arith, inside, all)) has)
     (λ past. subst (λ (xs : List (ℕ × Did)). HasNext number xs) (left-past left lane past) has)
-    (below-or lane (length left))
+    (cases_lt lane (length left))

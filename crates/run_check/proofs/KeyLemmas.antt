@@ -2,17 +2,13 @@
 use Rattle.std.proofs.Common.{◌≡◌, ℕ, Bool, true, false, refl, sym, eqb-true, eq-eqb, ◌∙◌}
 use Rattle.std.specs.Prelude.{◌==◌, ◌&&◌}
 use Rattle.std.specs.BTreeMap.{is_at}
+use Rattle.std.proofs.Math.Bool.{and-true}
 use Rattle.pool_law.specs.declared.note.Object.{Object}
 use Rattle.pool_law.specs.declared.note.Object.TheVariants.{Arena, Cache, Bin, Mail, Root}
-use Rattle.pool_law.specs.declared.id.RootId.{RootId}
-use Rattle.pool_law.specs.Same.{same_object, same_root}
-use Rattle.run_check.specs.Counting.{key_cmp}
+use Rattle.pool_law.specs.Same.{same_object}
+use Rattle.lane_reader.specs.Counting.{key_cmp}
 use Rattle.run_check.specs.Keying.{object_key}
-use Rattle.run_check.proofs.CountLemmas.{is_at-keys}
-
-pub and-true : (b : Bool) → (b && true) ≡ b
-and-true true = refl
-and-true false = refl
+use Rattle.lane_reader.proofs.CountLemmas.{is_at-keys}
 
 pub is_at-object : (a b : Object) → is_at (key_cmp (object_key a)) (object_key b) ≡ same_object a b
 is_at-object (Arena a) (Arena b) = is_at-keys (object_key (Arena a)) (object_key (Arena b)) ∙ and-true (a == b)
@@ -22,7 +18,7 @@ is_at-object (Mail l c) (Mail m d) = is_at-keys (object_key (Mail l c)) (object_
 is_at-object (Root a) (Root b) = is_at-keys (object_key (Root a)) (object_key (Root b)) ∙ and-true (a == b)
 is_at-object _ _ = refl
 
-pub eqb-swap : (a b : ℕ) → (a == b) ≡ (b == a)
+eqb-swap : (a b : ℕ) → (a == b) ≡ (b == a)
 eqb-swap a b = go (a == b) refl (b == a) refl
   where
     go : (x : Bool) → (a == b) ≡ x → (y : Bool) → (b == a) ≡ y → x ≡ y
@@ -38,15 +34,3 @@ same-object-swap (Bin a) (Bin b) = eqb-swap a b
 same-object-swap (Mail l c) (Mail m d) = λ i. eqb-swap l m i && eqb-swap c d i
 same-object-swap (Root a) (Root b) = eqb-swap a b
 same-object-swap _ _ = refl
-
-pub same-object-self : (a : Object) → same_object a a ≡ true
-same-object-self (Arena a) = eq-eqb a a refl
-same-object-self (Cache l c) = λ i. eq-eqb l l refl i && eq-eqb c c refl i
-same-object-self (Bin a) = eq-eqb a a refl
-same-object-self (Mail l c) = λ i. eq-eqb l l refl i && eq-eqb c c refl i
-same-object-self (Root a) = eq-eqb a a refl
-
-pub same_root-self : (a : RootId) → same_root a a ≡ true
-same_root-self a =
-    λ i.
-    eq-eqb a.place a.place refl i && (eq-eqb a.generation a.generation refl i && eq-eqb a.capacity a.capacity refl i)

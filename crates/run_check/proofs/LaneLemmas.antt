@@ -1,9 +1,9 @@
 -- What holds of the log of each lane.
 use Rattle.std.proofs.Common.{◌≡◌, ℕ, zero, suc, ◌+◌, ◌<◌, ◌≤◌, List, [], ◌∷◌, ◌++◌, length, map, get_or, take, ⊎_elim, refl, sym, ap, subst, arith, ◌∙◌}
-use Rattle.std.specs.Prelude.{◌⊎◌}
 use Rattle.std.specs.List.{AllZip}
 use Rattle.std.proofs.lemmas.List.{length-map, take_more, take_all}
 use Rattle.std.proofs.lemmas.Slice.Zip.{all_zipped_more}
+use Rattle.std.proofs.lemmas.Bool.{cases_lt}
 use Rattle.pool_law.specs.declared.note.Note.{Note}
 use Rattle.pool_law.specs.declared.run.LaneLog.{LaneLog}
 use Rattle.pool_law.specs.Logs.{Logs, of_lane, entry_of, entries_of}
@@ -43,9 +43,6 @@ notes-past [] k past = refl
 notes-past (x ∷ logs) zero past = absurd (omega (arith, past))
 notes-past (x ∷ logs) (suc k) past = notes-past logs k (omega (arith, past))
 
-pub below-or : (a b : ℕ) → (a < b) ⊎ (b ≤ a)
-below-or a b = grind arith
-
 -- what holds of each lane that is there, and of an empty log, holds of all lanes
 pub each-lane : {X : Type 0} (P : ℕ → List X → Type 0) (logs : List (List X)) (n : ℕ) →
     ((k : ℕ) → k < n → P k (of_lane logs k)) → length logs ≤ n → ((k : ℕ) → P k []) →
@@ -54,7 +51,7 @@ each-lane {X = X} P logs n there all none k =
     ⊎_elim
     (λ inside. there k inside)
     (λ past. subst (λ (xs : List X). P k xs) (sym (lane-past logs k (omega (arith, past, all)))) (none k))
-    (below-or k n)
+    (cases_lt k n)
 
 pub each-notes : (P : ℕ → List Note → Type 0) (logs : List LaneLog) (n : ℕ) →
     ((k : ℕ) → k < n → P k (of_lane (notes_in logs) k)) → length logs ≤ n → ((k : ℕ) → P k []) →
@@ -63,7 +60,7 @@ each-notes P logs n there all none k =
     ⊎_elim
     (λ inside. there k inside)
     (λ past. subst (λ (xs : List Note). P k xs) (sym (notes-past logs k (omega (arith, past, all)))) (none k))
-    (below-or k n)
+    (cases_lt k n)
 
 -- two lists that go together, one item further
 pub zip-push : {A B : Type 0} (R : A → B → Type 0) (xs new : List A) (ys : List B) (i : ℕ) (x : A) (y : B) →

@@ -1,5 +1,5 @@
 -- The report of live roots, by what the program keeps, is the law's.
-use Rattle.std.proofs.Common.{◌≡◌, ℕ, zero, suc, ◌+◌, ◌-◌, ◌<◌, Bool, true, false, List, [], ◌∷◌, ◌++◌, length, get_or, take, drop, append_assoc, refl, sym, ap, arith, ◌∙◌}
+use Rattle.std.proofs.Common.{◌≡◌, ℕ, zero, suc, ◌+◌, ◌-◌, ◌<◌, ◌≤◌, Bool, true, false, List, [], ◌∷◌, ◌++◌, length, get_or, take, drop, append_assoc, refl, sym, ap, arith, ◌∙◌}
 use Rattle.std.proofs.lemmas.List.{take_more_same}
 use Rattle.std.proofs.lemmas.Bool.Decides.{nat_tests}
 use Rattle.pool_law.specs.declared.note.Did.TheVariants.{Birth}
@@ -20,7 +20,7 @@ use Rattle.pool_law.specs.Counts.{total_of}
 use Rattle.pool_law.specs.Leaks.{births, is_live, is_sampled, keeps_records, accesses, kept_of, dropped_of, capacity_in, leak_of, lane_leaks, leaks_from}
 use Rattle.pool_law.proofs.HistoryLemmas.{history_of-is}
 use Rattle.run_check.specs.declared.histories.Histories.{Histories}
-use Rattle.run_check.specs.declared.tally.Sums.{Sums}
+use Rattle.run_check.specs.declared.tally.Totals.{Totals}
 use Rattle.run_check.specs.declared.tally.Tally.{Tally}
 use Rattle.run_check.specs.Spotting.{notes_in}
 use Rattle.run_check.specs.Storing.{history_in, AreHistories}
@@ -44,7 +44,7 @@ module _ (shape : Shape) (logs : List LaneLog) (m : Histories) (tallies : List T
       (1 + (total_sums tallies root).retains) - (total_sums tallies root).releases
       ≡ total_of root (entries_of (notes_in logs))
   total-is root =
-      ap (λ (s : Sums). (1 + s.retains) - s.releases)
+      ap (λ (s : Totals). (1 + s.retains) - s.releases)
       (totals-counted (entry_of (notes_in logs)) (entry-bare (notes_in logs)) root tallies logs sums)
 
   history-is : (place : ℕ) → history_in m (Root place) ≡ history_of (Root place) (notes_in logs)
@@ -85,6 +85,13 @@ module _ (shape : Shape) (logs : List LaneLog) (m : Histories) (tallies : List T
 
 -- ---- What is reported, one note further.
 
+-- a note lets one root be born at the most
+pub one-birth : (n : Note) → length (births (n ∷ [])) ≤ 1
+one-birth (At object number (Birth root region)) = omega arith
+one-birth (At object number _) = omega arith
+one-birth (Ref root did) = omega arith
+one-birth (Busy held) = omega arith
+
 births-front : (n : Note) (ns : List Note) → births (n ∷ ns) ≡ births (n ∷ []) ++ births ns
 births-front (At object number (Birth root region)) ns = refl
 births-front (At object number _) ns = refl
@@ -119,14 +126,14 @@ not-zero : (n : ℕ) → (n ≡ 0 → ⊥) → not (n == 0) ≡ true
 not-zero n some = grind (arith, nat_tests)
 
 -- what is reported of a root with these sums
-abbrev leak-with : Shape → Histories → ℕ → ℕ → RootId → Sums → Leak
+abbrev leak-with : Shape → Histories → ℕ → ℕ → RootId → Totals → Leak
 leak-with shape m lane serial root sums =
     leak_by shape.level lane serial (capacity_by m root) sums
     (accesses root false (history_in m (Root root.place)))
 
 -- what is reported of a root that is live and sampled
 pub one-leak-is : (shape : Shape) (m : Histories) (tallies : List Tally) (lane serial : ℕ) (root : RootId)
-    (sums : Sums) → sums ≡ total_sums tallies root → ((1 + sums.retains) - sums.releases ≡ 0 → ⊥) →
+    (sums : Totals) → sums ≡ total_sums tallies root → ((1 + sums.retains) - sums.releases ≡ 0 → ⊥) →
     is_sampled shape.level shape.interval serial ≡ true →
     one_leak shape m tallies lane serial root
     ≡ leak_by shape.level lane serial (capacity_by m root) sums
@@ -134,7 +141,7 @@ pub one-leak-is : (shape : Shape) (m : Histories) (tallies : List Tally) (lane s
 one-leak-is shape m tallies lane serial root sums is live sampled =
     let leak : Leak = leak-with shape m lane serial root sums in
     ap
-    (λ (s : Sums). if not ((1 + s.retains) - s.releases == 0) && is_sampled shape.level shape.interval serial
+    (λ (s : Totals). if not ((1 + s.retains) - s.releases == 0) && is_sampled shape.level shape.interval serial
     then leak-with shape m lane serial root s ∷ []
     else [])
     (sym is)

@@ -4,12 +4,12 @@ use Rattle.std.specs.Prelude.{◌⊎◌}
 use Rattle.std.specs.List.{All}
 use Rattle.std.proofs.lemmas.List.{map-append, take_more}
 use Rattle.std.proofs.lemmas.List.Elements.{All-nil, All-cons, All-head, All-tail, All-same, All-push, All-weaker}
+use Rattle.std.proofs.lemmas.Bool.{cases_lt}
 use Rattle.pool_law.specs.declared.note.Did.{Did}
 use denote.Ref.{Bor}
 use Rattle.run_check.specs.declared.gathering.HistoryNote.{HistoryNote}
 use Rattle.run_check.specs.Gathering.{spot_data, spots_behind, left_of}
 use Rattle.run_check.proofs.GatheringLemmas.{left-at, left-past}
-use Rattle.run_check.proofs.LaneLemmas.{below-or}
 
 -- what holds of each item holds of those before, and of those behind
 pub All-before : {X : Type 0} (P : X → Type 0) (xs ys : List X) → All P (xs ++ ys) → All P xs
@@ -81,7 +81,7 @@ module _ (number old new : ℕ) (left : List (Bor (List HistoryNote))) (i : ℕ)
       (λ past.
       let same : lane ≡ i = omega (arith, past, below) in
       All-same (λ (x : ℕ × Did). new ≤ x.0) _ _ (ap (left_of left) same ∙ here) least)
-      (below-or lane i)
+      (cases_lt lane i)
 
   pub lanes-there :
       (old < number → ((lane : ℕ) → lane < i → Past old (left_of left lane)) → ⊥) → new < number →
@@ -95,7 +95,7 @@ module _ (number old new : ℕ) (left : List (Bor (List HistoryNote))) (i : ℕ)
       (λ lane inside.
       All-weaker (λ (x : ℕ × Did). new < x.0) (λ (x : ℕ × Did). old < x.0) (λ x lt. omega (arith, lt, same))
       (left_of left lane) (past lane (omega (arith, inside)))))
-      (below-or new old)
+      (cases_lt new old)
 
 -- all lanes
 pub all-lanes : (least : ℕ) (left : List (Bor (List HistoryNote))) (i : ℕ) → length left ≤ i →
@@ -106,4 +106,4 @@ all-lanes least left i all below lane =
     (λ past.
     All-same (λ (x : ℕ × Did). least ≤ x.0) _ _ (left-past left lane (omega (arith, past, all)))
     (All-nil (λ (x : ℕ × Did). least ≤ x.0)))
-    (below-or lane i)
+    (cases_lt lane i)

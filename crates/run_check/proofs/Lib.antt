@@ -1,4 +1,3 @@
-mod CountLemmas
 mod MergeLemmas
 mod GatheringLemmas
 mod LaneLemmas

@@ -15,7 +15,7 @@ use Rattle.pool_law.specs.Busy.{MarksFit, IsOfAnother, MarksHold}
 use Rattle.pool_law.proofs.SameLemmas.{same_object-is, and-first, and-second}
 use Rattle.run_check.specs.declared.busy.Had.{Had}
 use Rattle.run_check.specs.Marking.{none_had, least_after, FitFrom, had_note, had_mark, had_after, MayCome, MarkHolds}
-use Rattle.run_check.proofs.KeyLemmas.{same-object-self}
+use Rattle.pool_law.proofs.PatternLemmas.{same_object-refl}
 
 pub fit-front : (object : Object) (h : Had) (n : Note) (ns : List Note) → FitFrom object h (n ∷ ns) →
     MayCome object h n × FitFrom object (had_after object h n) ns
@@ -121,7 +121,7 @@ pub note-may : (had : Object → Had) (o : Object) (number : ℕ) (did : Did) (g
 note-may had o number did good own = (
   λ e object same.
       subst (λ (p : Object). least_after (had p).mark ≤ number) (sym (same_object-is object o same)) (own.0 e),
-  λ all. own.1 (all o (same-object-self o)),
+  λ all. own.1 (all o (same_object-refl o)),
 )
 
 pub mark-may : (had : Object → Had) (held : Held) →
@@ -132,7 +132,7 @@ mark-may had held = (
       subst (λ (p : Object). (had p).number ≤ held.number) (sym (same_object-is object held.object same))
       (leb-true (had held.object).number held.number e),
   λ all.
-      let most : (had held.object).number ≤ held.number = all held.object (same-object-self held.object) in
+      let most : (had held.object).number ≤ held.number = all held.object (same_object-refl held.object) in
       search (arith, most),
 )
 

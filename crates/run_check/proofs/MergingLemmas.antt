@@ -135,6 +135,14 @@ part-shorter spots first is =
     omega (arith, same, shorter spots (drop 1 spots) first is)
 
 -- the history with the first note of the lane that has the next number
+-- behind one more the next number is one more than how many there are
+pub numbered-next : (old pushed : List Done) (done : Done) (number count : ℕ) → number ≡ length (dones_in old) + 1 →
+    pushed ≡ old ++ done ∷ [] → count ≡ length pushed → count + 1 ≡ number + 1
+numbered-next old pushed done number count is push size =
+    let many : length (dones_in old) ≡ length old = length-map old (λ (d : Done). (d.lane, d.did.now)) in
+    let longer : length pushed ≡ length old + 1 = ap length push ∙ length-append old (done ∷ []) in
+    omega (arith, is, many, longer, size)
+
 pub so-far-next : (all : ℕ → List (ℕ × Did)) (left : List (Bor (List HistoryNote))) (lane number next : ℕ)
     (spots new : Bor (List HistoryNote)) (first : HistoryNote) (old pushed : List Done) (done : Done) →
     SoFar all (left_of left) (dones_in old) number → HasNext number (left_of left lane) → lane < length left →

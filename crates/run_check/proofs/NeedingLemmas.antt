@@ -8,12 +8,12 @@ use Rattle.pool_law.specs.declared.id.RootId.{RootId}
 use Rattle.pool_law.specs.Logs.{ToldNote}
 use Rattle.pool_law.specs.Counts.{CountsHold, LookHolds, is_retain, is_release}
 use Rattle.pool_law.specs.Legal.{LookAt, LooksHold, one_if}
-use Rattle.run_check.specs.declared.counts.Counts.{Counts}
+use Rattle.lane_reader.specs.declared.counts.Counts.{Counts}
 use Rattle.run_check.specs.declared.tally.Tally.{Tally}
-use Rattle.run_check.specs.Counting.{count_in, count_after}
+use Rattle.lane_reader.specs.Counting.{count_in, count_after}
 use Rattle.run_check.specs.Tallying.{sums_in}
 use Rattle.run_check.specs.Needing.{NeedsHold}
-use Rattle.run_check.proofs.KeyLemmas.{same_root-self}
+use Rattle.pool_law.proofs.PatternLemmas.{same_root-refl}
 
 pub counts-front : (root : RootId) (k : ℕ) (e : ToldNote) (es : List ToldNote) → CountsHold root k (e ∷ es) →
     NeedsHold root k e × CountsHold root (count_after root k e.note) es
@@ -99,5 +99,5 @@ look-each good r found retains releases count others one = (
   λ e root same.
       subst (λ (q : RootId). LookHolds q (retains q) (releases q) (count q) (others q) found)
       (same_root-is r root same) (one.0 e),
-  λ all. one.1 (all r (same_root-self r)),
+  λ all. one.1 (all r (same_root-refl r)),
 )

@@ -23,7 +23,7 @@ use Rattle.object_steps.specs.declared.told.PlaceTold.{PlaceTold}
 use Rattle.run_check.specs.declared.histories.ObjectHistory.{ObjectHistory}
 use Rattle.run_check.specs.declared.histories.BrokenAt.{BrokenAt}
 use Rattle.run_check.specs.declared.histories.Histories.{Histories}
-use Rattle.run_check.specs.Counting.{key_cmp}
+use Rattle.lane_reader.specs.Counting.{key_cmp}
 use Rattle.run_check.specs.Keying.{object_key}
 use Rattle.run_check.specs.Gathering.{AreNumbered}
 use Rattle.object_steps.specs.Telling.{told_of_each}
@@ -33,7 +33,8 @@ use Rattle.run_check.specs.Fronts.{IsBrokenAt, StopsAt, AcceptsSoMany}
 use Rattle.run_check.specs.Storing.{told_of, TellsOf, IsObjectHistory, ObjectHolds, object_history_in, has_object_history, dones_of, told_by_object_history, history_in, AreStories, Keeps, Covers, AreHistories}
 use Rattle.run_check.proofs.FrontLemmas.{whole-front}
 use Rattle.run_check.proofs.BrokenLemmas.{accepts-nothing, accepts-less, refused-at}
-use Rattle.run_check.proofs.KeyLemmas.{is_at-object, same-object-self}
+use Rattle.pool_law.proofs.PatternLemmas.{same_object-refl}
+use Rattle.run_check.proofs.KeyLemmas.{is_at-object}
 use Rattle.run_check.proofs.MailLemmas.{no-mail, unused-holds}
 
 -- ---- One object.
@@ -149,7 +150,7 @@ module _ (shape : Shape) (logs : Logs) (object : Object) (old new : Histories) (
     pub object_history-added : AreStories shape logs old → IsObjectHistory shape logs object object_history →
         AreStories shape logs new × Keeps old new × (has_object_history new object ≡ true)
     object_history-added are is =
-        (object_histories-more are is, keeps-more, ap is_some (at object true (same-object-self object)))
+        (object_histories-more are is, keeps-more, ap is_some (at object true (same_object-refl object)))
 
 -- objects that are covered stay so
 pub covers-kept : (old new : Histories) (notes : List Note) → Keeps old new → Covers old notes → Covers new notes

@@ -1,11 +1,13 @@
 -- A report as it is read, leak by leak.
 use Rattle.std.proofs.Common.{◌≡◌, ℕ, ◌+◌, ◌<◌, ◌≤◌, List, [], ◌∷◌, ◌++◌, length, get_or, take, Some, None, append_assoc, sym, ap, subst, arith, ◌∙◌}
 use Rattle.std.proofs.lemmas.List.{take_all, take_more}
+use Rattle.std.proofs.lemmas.Option.{same_Some}
 use Rattle.pool_law.specs.declared.report.Leak.{Leak}
 use Rattle.pool_law.proofs.HistoryLemmas.{append-nil}
+use Rattle.pool_law.proofs.ListLemmas.{slice_get-past}
 use Rattle.run_check.specs.Placing.{DifferAt}
 use Rattle.run_check.specs.Reporting.{GoesOn, Strays}
-use Rattle.run_check.proofs.DifferLemmas.{get-there, get-past, differ-here, differ-longer, same-some}
+use Rattle.run_check.proofs.DifferLemmas.{get-there, differ-here, differ-longer}
 
 none-some : (leak : Leak) → None ≡ Some leak → ⊥
 none-some leak e = absurd (cc e)
@@ -24,13 +26,13 @@ goes-by-one report at d leak inside is = (
 pub strays-past : (report : List Leak) (at : ℕ) (leak : Leak) → at ≤ length report → length report ≤ at →
     Strays report at (leak ∷ []) at
 strays-past report at leak inside past more =
-    differ-here report at leak more inside (λ e. none-some leak (sym (get-past report at past) ∙ e))
+    differ-here report at leak more inside (λ e. none-some leak (sym (slice_get-past report at past) ∙ e))
 
 pub strays-here : (report : List Leak) (at : ℕ) (d leak : Leak) → at < length report →
     (get_or report at d ≡ leak → ⊥) → Strays report at (leak ∷ []) at
 strays-here report at d leak inside unlike more =
     differ-here report at leak more (omega (arith, inside))
-    (λ e. unlike (same-some (get_or report at d) leak (sym (get-there report at d inside) ∙ e)))
+    (λ e. unlike (same_Some (get_or report at d) leak (sym (get-there report at d inside) ∙ e)))
 
 -- what is expected behind these, where a report goes on with them or strays
 pub goes-behind : (report these rest all : List Leak) (at next : ℕ) → GoesOn report at these next →

@@ -16,7 +16,7 @@ use Rattle.pool_law.proofs.HistoryLemmas.{append-nil}
 use Rattle.pool_law.proofs.SameLemmas.{same_object-is}
 use Rattle.run_check.specs.declared.gathering.HistoryNote.{HistoryNote}
 use Rattle.run_check.specs.declared.spots.Spots.{Spots}
-use Rattle.run_check.specs.Counting.{key_cmp}
+use Rattle.lane_reader.specs.Counting.{key_cmp}
 use Rattle.run_check.specs.Keying.{object_key}
 use Rattle.run_check.specs.Gathering.{spot_data, spots_behind, left_of}
 use Rattle.run_check.specs.Spotting.{spots_in, spots_at, notes_in, laned, AreSpots}

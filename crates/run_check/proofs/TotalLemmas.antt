@@ -8,7 +8,7 @@ use Rattle.pool_law.specs.declared.run.LaneLog.{LaneLog}
 use Rattle.pool_law.specs.Logs.{Logs, ToldNote, of_lane}
 use Rattle.pool_law.specs.Counts.{count_in, count_over, is_birth, TotalHolds}
 use Rattle.pool_law.specs.Legal.{one_if}
-use Rattle.run_check.specs.declared.tally.Sums.{Sums}
+use Rattle.run_check.specs.declared.tally.Totals.{Totals}
 use Rattle.run_check.specs.declared.tally.Tally.{Tally}
 use Rattle.run_check.specs.Spotting.{notes_in}
 use Rattle.run_check.specs.Tallying.{total_sums, IsTally, AreTotals, EachHolds}
@@ -83,7 +83,7 @@ module _ (g : Note → ToldNote) (bare : (n : Note) → (g n).note ≡ n) (talli
     pub totals-on : AreTotals (total_sums tallies root) → TotalHolds root (map (map g) (notes_in logs))
     totals-on t =
         let u : AreTotals (counted_over root (map (map g) (notes_in logs))) =
-        subst (λ (s : Sums). AreTotals s) (totals-counted g bare root tallies logs are) t in
+        subst (λ (s : Totals). AreTotals s) (totals-counted g bare root tallies logs are) t in
         record {
           never_below = u.never_below;
           born_once = u.born_once;
@@ -102,10 +102,10 @@ module _ (g : Note → ToldNote) (bare : (n : Note) → (g n).note ≡ n) (talli
           ends_at_zero =
               t.ends_at_zero;
         } in
-        subst (λ (s : Sums). AreTotals s) (sym (totals-counted g bare root tallies logs are)) u
+        subst (λ (s : Totals). AreTotals s) (sym (totals-counted g bare root tallies logs are)) u
 
     pub births-are : (total_sums tallies root).births ≡ count_over (is_birth root) (map (map g) (notes_in logs))
-    births-are = ap (λ (s : Sums). s.births) (totals-counted g bare root tallies logs are)
+    births-are = ap (λ (s : Totals). s.births) (totals-counted g bare root tallies logs are)
 
 -- what one lane counts is counted over all
 pub lane-over : (test : Note → Bool) (logs : List (List ToldNote)) (k : ℕ) → 0 < count_in test (of_lane logs k) →

@@ -7,7 +7,7 @@ use Rattle.pool_law.specs.declared.note.Note.TheVariants.{At, Ref, Busy}
 use Rattle.pool_law.specs.Same.{same_object}
 use Rattle.pool_law.specs.Busy.{MarksFit, IsOfAnother}
 use Rattle.pool_law.specs.Logs.{History}
-use Rattle.run_check.specs.Counting.{key_cmp}
+use Rattle.lane_reader.specs.Counting.{key_cmp}
 use Rattle.run_check.specs.Keying.{object_key}
 use Rattle.run_check.specs.declared.busy.Had.{Had}
 use Rattle.run_check.specs.declared.busy.Marked.{Marked}

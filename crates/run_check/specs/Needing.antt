@@ -4,7 +4,7 @@ use Rattle.pool_law.specs.declared.id.RootId.{RootId}
 use Rattle.pool_law.specs.declared.note.Note.{Note}
 use Rattle.pool_law.specs.Logs.{ToldNote}
 use Rattle.pool_law.specs.Counts.{needs_count, ends_root}
-use Rattle.run_check.specs.Counting.{count_after}
+use Rattle.lane_reader.specs.Counting.{count_after}
 
 -- a note that ends the root leaves no count
 abbrev pub EndHolds : RootId → ℕ → Note → Type 0

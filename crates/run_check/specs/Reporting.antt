@@ -20,7 +20,7 @@ use Rattle.run_check.specs.Storing.{history_in}
 use Rattle.run_check.specs.Tallying.{total_sums}
 use Rattle.run_check.specs.declared.histories.Histories.{Histories}
 use Rattle.run_check.specs.declared.merging.Done.{Done}
-use Rattle.run_check.specs.declared.tally.Sums.{Sums}
+use Rattle.run_check.specs.declared.tally.Totals.{Totals}
 use Rattle.run_check.specs.declared.tally.Tally.{Tally}
 
 -- a root is present after a note at its place
@@ -65,7 +65,7 @@ capacity_by m root =
     (present_in (place_after root.place (dids (history_in m (Root root.place)))))
 
 -- the report of a root with this capacity, these sums and accesses
-abbrev pub leak_by : Level → ℕ → ℕ → ℕ → Sums → List Access → Leak
+abbrev pub leak_by : Level → ℕ → ℕ → ℕ → Totals → List Access → Leak
 leak_by level lane serial capacity sums all =
     record {
       lane = lane;

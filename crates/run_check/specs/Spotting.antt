@@ -7,7 +7,7 @@ use Rattle.pool_law.specs.declared.note.Object.{Object}
 use Rattle.pool_law.specs.declared.run.LaneLog.{LaneLog}
 use Rattle.pool_law.specs.declared.run.Answered.{Answered}
 use Rattle.pool_law.specs.Logs.{Logs, of_lane, own}
-use Rattle.run_check.specs.Counting.{key_cmp}
+use Rattle.lane_reader.specs.Counting.{key_cmp}
 use Rattle.run_check.specs.Keying.{object_key}
 use Rattle.run_check.specs.Gathering.{spots_behind}
 use Rattle.run_check.specs.declared.gathering.HistoryNote.{HistoryNote}

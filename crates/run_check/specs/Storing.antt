@@ -11,7 +11,7 @@ use Rattle.pool_law.specs.Logs.{Logs, History, dids, own, IsHistory, has_history
 use Rattle.pool_law.specs.Mails.{MailsHold}
 use Rattle.pool_law.specs.Histories.{accepts, IsAccepted}
 use Rattle.pool_law.specs.Roots.{new_place}
-use Rattle.run_check.specs.Counting.{key_cmp}
+use Rattle.lane_reader.specs.Counting.{key_cmp}
 use Rattle.run_check.specs.Keying.{object_key}
 use Rattle.run_check.specs.Merging.{dones_in}
 use Rattle.run_check.specs.Mailing.{IsHeldMail}

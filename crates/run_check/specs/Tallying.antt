@@ -7,8 +7,9 @@ use Rattle.pool_law.specs.declared.note.RefDid.{RefDid}
 use Rattle.pool_law.specs.declared.run.LaneLog.{LaneLog}
 use Rattle.pool_law.specs.Counts.{is_birth, names_root, is_born, is_retain, is_release, ends_root}
 use Rattle.pool_law.specs.Legal.{one_if}
-use Rattle.run_check.specs.Counting.{key_cmp, key_of}
+use Rattle.lane_reader.specs.Counting.{key_cmp, key_of}
 use Rattle.run_check.specs.declared.tally.Sums.{Sums}
+use Rattle.run_check.specs.declared.tally.Totals.{Totals}
 use Rattle.run_check.specs.declared.tally.Tally.{Tally}
 
 -- nothing is noted
@@ -28,8 +29,20 @@ sums_step s RefDid.Ended = record s { releases = s.releases + 1; ends = s.ends +
 sums_step s RefDid.Vacated = s
 sums_step s (RefDid.Look found) = s
 
--- both together
-abbrev pub plus : Sums → Sums → Sums
+-- none of them is greater
+pub record AreAtMost (most : ℕ) (s : Sums) : Type 0 where
+  pub births : s.births ≤ most
+  pub borns : s.borns ≤ most
+  pub retains : s.retains ≤ most
+  pub releases : s.releases ≤ most
+  pub ends : s.ends ≤ most
+
+-- nothing is noted in any log
+abbrev pub no_totals : Totals
+no_totals = record { births = 0; borns = 0; retains = 0; releases = 0; ends = 0 }
+
+-- the sums of a log together with the totals of others
+abbrev pub plus : Sums → Totals → Totals
 plus a b =
     record {
       births = a.births + b.births;
@@ -38,6 +51,14 @@ plus a b =
       releases = a.releases + b.releases;
       ends = a.ends + b.ends;
     }
+
+-- none of the totals is greater
+pub record TotalsAtMost (most : ℕ) (t : Totals) : Type 0 where
+  pub births : t.births ≤ most
+  pub borns : t.borns ≤ most
+  pub retains : t.retains ≤ most
+  pub releases : t.releases ≤ most
+  pub ends : t.ends ≤ most
 
 -- the sums of a root
 abbrev pub sums_in : Tally → RootId → Sums
@@ -64,8 +85,8 @@ abbrev pub IsTally : Tally → LaneLog → Type 0
 IsTally tally log = (root : RootId) → sums_in tally root ≡ sums_from root no_sums log.notes
 
 -- the sums of a root over all logs
-abbrev pub total_sums : List Tally → RootId → Sums
-total_sums [] root = no_sums
+abbrev pub total_sums : List Tally → RootId → Totals
+total_sums [] root = no_totals
 total_sums (t ∷ rest) root = plus (sums_in t root) (total_sums rest root)
 
 -- the retains of a root in the logs other than this lane's
@@ -75,7 +96,7 @@ others_sum root lane at (t ∷ rest) =
     (if at == lane then 0 else (sums_in t root).retains) + others_sum root lane (at + 1) rest
 
 -- these are the sums of a root that was born
-pub record AreTotals (s : Sums) : Type 0 where
+pub record AreTotals (s : Totals) : Type 0 where
   pub never_below : s.releases ≤ 1 + s.retains
   pub born_once : s.borns ≡ 1
   pub ends_once : s.ends ≤ 1

@@ -52,10 +52,10 @@ fn breach_of_counts(
     if let Some(spot) = first_miscounted(alloc, logs, told)? {
         return Ok(Some(Breach::Uses(spot)));
     }
-    if let Some(root) = first_mistotaled(&tallies, logs)? {
+    if let Some(root) = first_mistotaled(&tallies, logs) {
         return Ok(Some(Breach::Totals(root)));
     }
-    if let Some(spot) = first_unborn(&tallies, logs)? {
+    if let Some(spot) = first_unborn(&tallies, logs) {
         return Ok(Some(Breach::Unborn(spot)));
     }
     if let Some(spot) = first_mislooked(alloc, &tallies, logs, told)? {

@@ -1,18 +1,17 @@
 //! Whether lanes count roots as they must.
 
-ghost use Rattle.std.specs.Prelude.{◌≡◌, ◌≤◌, ◌↔◌, true, length, IsTrue, IfOk, MatchOption};
+ghost use Rattle.std.specs.Prelude.{◌≡◌, ◌+◌, ◌<◌, ◌≤◌, ◌^◌, ◌↔◌, true, length, IsTrue, IfOk, MatchOption};
 ghost use Rattle.pool_law.specs.declared.id.RootId.{RootId};
 ghost use Rattle.pool_law.specs.Counts.{root_is, note_needs, CountsHold, LookHolds};
 ghost use Rattle.pool_law.specs.Legal.{LookAt, LooksHold};
-ghost use Rattle.run_check.specs.Counting.{count_in};
+ghost use Rattle.lane_reader.specs.Counting.{count_in};
 ghost use Rattle.run_check.specs.Needing.{EndHolds, NeedsHold};
 ghost use Rattle.run_check.specs.Placing.{BreaksAt};
 ghost use Rattle.lane_reader.specs.Reading.{entry, entries};
 ghost use Rattle.run_check.specs.Tallying.{sums_in, others_sum};
 
-use crate::counts::Counts;
-use crate::tally::{Sums, Tally, others_of, sum};
-use lane_reader::Log;
+use crate::tally::{Sums, Tally, others_of};
+use lane_reader::{Counts, Log};
 use object_steps::PlaceTold;
 use pool_law::{Did, Note, RefDid, RootId};
 use std::alloc::{AllocError, Global};
@@ -94,39 +93,32 @@ pub fn miscounted_at(alloc: Global, log: &Log) -> Result<Option<usize>, AllocErr
 }
 
 // Whether a count that a lane with these sums looks up is in its bounds.
-fn is_within(found: u64, count: u64, sums: &Sums, others: u64) -> Result<bool, AllocError>
-    ensures { (root : RootId) → IfOk result (λ good. IsTrue good
-        ↔ LookHolds root sums.now.retains sums.now.releases count others found) }
+fn is_within(found: u64, count: u64, sums: &Sums, others: u128) -> bool
+    requires { others + 2 ^ 64 < 2 ^ 128 }
+    ensures { (root : RootId) → IsTrue result
+        ↔ LookHolds root sums.now.retains sums.now.releases count others found }
 {
-    let least = sum(found, sums.releases)?;
-    let kept = sum(sums.retains, others)?;
-    let most = sum(kept, 1)?;
-    Ok(count <= found && least <= most)
+    let least = u128::from(found) + u128::from(sums.releases);
+    let most = u128::from(sums.retains) + others + 1;
+    count <= found && least <= most
 }
 
 // Whether what a lane looks up is in its bounds.
-fn look_holds(
-    counts: &Counts,
-    own: &Tally,
-    tallies: &[Tally],
-    lane: usize,
-    note: &Note,
-) -> Result<bool, AllocError>
-    ensures { IfOk result (λ good. IsTrue good ↔ ((root : RootId) → LookAt root
+fn look_holds(counts: &Counts, own: &Tally, tallies: &[Tally], lane: usize, note: &Note) -> bool
+    ensures { IsTrue result ↔ ((root : RootId) → LookAt root
         (sums_in own.now root).retains (sums_in own.now root).releases
-        (count_in counts.now root) (others_sum root lane 0 tallies.now) note.now)) }
+        (count_in counts.now root) (others_sum root lane 0 tallies.now) note.now) }
 {
     let Note::Ref { root, did } = note else {
-        return Ok(true);
+        return true;
     };
     let RefDid::Look(found) = did else {
-        return Ok(true);
+        return true;
     };
     let sums = own.of(root);
     let count = counts.of(root);
-    let others = others_of(tallies, root, lane)?;
-    let good = is_within(u64::from(*found), count, &sums, others)?;
-    Ok(good)
+    let others = others_of(tallies, root, lane);
+    is_within(u64::from(*found), count, &sums, others)
 }
 
 /// The place of the first note by which a lane looks up of a root what is not in its bounds, if there is one.
@@ -145,7 +137,7 @@ pub fn mislooked_at(
     let mut counts = Counts::new(alloc);
     let mut own = Tally::new(alloc);
     for (at, note) in log.notes.iter().enumerate() {
-        if !look_holds(&counts, &own, tallies, lane, note)? {
+        if !look_holds(&counts, &own, tallies, lane, note) {
             return Ok(Some(at));
         }
         counts.pass(note)?;

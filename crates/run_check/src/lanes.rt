@@ -113,22 +113,22 @@ pub fn first_miscounted(
 }
 
 /// The first note that names a root which was never born, if there is one.
-pub fn first_unborn(tallies: &[Tally], logs: &[LaneLog]) -> Result<Option<NoteSpot>, AllocError>
+pub fn first_unborn(tallies: &[Tally], logs: &[LaneLog]) -> Option<NoteSpot>
     requires few { length logs.now ≤ 2 ^ 16 }
     requires tallies { AllZip IsTally tallies.now logs.now }
-    ensures { IfOk result (λ found. MatchOption found
+    ensures { MatchOption result
         ((root : RootId) → 0 < count_over (names_root root) (entries_of (notes_in logs.now))
         → 0 < count_over (is_birth root) (entries_of (notes_in logs.now)))
         (BreaksFirst (λ lane es. (root : RootId) → 0 < count_in (names_root root) es
         → 0 < count_over (is_birth root) (entries_of (notes_in logs.now)))
-        (entries_of (notes_in logs.now)))) }
+        (entries_of (notes_in logs.now))) }
 {
     for lane in 0..logs.len() {
-        if let Some(at) = unborn_at(tallies, logs[lane].notes.items())? {
-            return Ok(Some(spot(lane, at)));
+        if let Some(at) = unborn_at(tallies, logs[lane].notes.items()) {
+            return Some(spot(lane, at));
         }
     }
-    Ok(None)
+    None
 }
 
 /// The first note by which a lane looks up a count which can't be, if there is one.

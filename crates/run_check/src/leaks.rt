@@ -1,6 +1,6 @@
 //! Whether a report is that of the live roots that are sampled.
 
-ghost use Rattle.std.specs.Prelude.{◌≡◌, ◌+◌, ◌∷◌, ◌≤◌, ◌↔◌, [], false, length, IsTrue, IfOk, MatchOption, MatchResult};
+ghost use Rattle.std.specs.Prelude.{◌≡◌, ◌+◌, ◌∷◌, ◌<◌, ◌≤◌, ◌^◌, ◌↔◌, [], false, length, IsTrue, IfOk, MatchOption, MatchResult};
 ghost use Rattle.pool_law.specs.Leaks.{births, is_sampled, accesses};
 ghost use Rattle.run_check.specs.Storing.{history_in};
 ghost use Rattle.run_check.specs.Reporting.{capacity_by, leak_by, one_leak, leaks_in, all_leaks, GoesOn, Strays};
@@ -8,7 +8,7 @@ ghost use Rattle.run_check.specs.Placing.{DifferAt};
 
 use crate::histories::{Histories, dids_of};
 use crate::records::{accesses_to, is_leak};
-use crate::tally::{Sums, Tally, sum, total_of};
+use crate::tally::{Tally, Totals, total_of};
 use crate::totals::born;
 use object_steps::capacity_after;
 use pool_law::{LaneLog, Leak, Level, Note, Object, RootId, Shape};
@@ -44,7 +44,7 @@ fn is_leak_of(
     lane: usize,
     serial: u64,
     root: &RootId,
-    sums: &Sums,
+    sums: &Totals,
     leak: &Leak,
 ) -> Result<bool, AllocError>
     ensures { IfOk result (λ good. IsTrue good ↔ (leak.now ≡ leak_by report.now.shape.now.level lane
@@ -75,7 +75,7 @@ fn next_leak(
         (GoesOn report.now.leaks.now at (one_leak report.now.shape.now report.now.histories.now
         report.now.tallies.now lane serial root.now))) }
 {
-    let sums = total_of(report.tallies, root)?;
+    let sums = total_of(report.tallies, root);
     if sums.is_over() || !is_sampled(report.shape, serial) {
         return Ok(Some(at));
     }
@@ -88,34 +88,35 @@ fn next_leak(
     Ok(Some(at + 1))
 }
 
-// The place in a report behind what it has of the root that a note lets be born, and the next
-// serial; or none where it has something else.
+// The place in a report behind what it has of the root that a note lets be born, and how many were born
+// then, of so many before; or none where it has something else.
 fn after_note(
     alloc: Global,
     report: &Report,
     lane: usize,
-    serial: u64,
+    before: u64,
     note: &Note,
     at: usize,
 ) -> Result<Option<(usize, u64)>, AllocError>
+    requires before { before + 1 < 2 ^ 64 }
     requires interval { 1 ≤ report.now.shape.now.interval }
     requires inside { at ≤ length report.now.leaks.now }
     ensures { IfOk result (λ next. MatchOption next
         (Strays report.now.leaks.now at (leaks_in report.now.shape.now report.now.histories.now
-        report.now.tallies.now lane serial (note.now ∷ [])) at)
+        report.now.tallies.now lane (before + 1) (note.now ∷ [])) at)
         (λ n. GoesOn report.now.leaks.now at (leaks_in report.now.shape.now report.now.histories.now
-        report.now.tallies.now lane serial (note.now ∷ [])) n.0
-        × (n.1 ≡ serial + length (births (note.now ∷ []))))) }
+        report.now.tallies.now lane (before + 1) (note.now ∷ [])) n.0
+        × (n.1 ≡ before + length (births (note.now ∷ []))))) }
 {
     let Some(root) = born(note) else {
-        return Ok(Some((at, serial)));
+        return Ok(Some((at, before)));
     };
+    let serial = before + 1;
     let found = next_leak(alloc, report, lane, serial, &root, at)?;
     let Some(next) = found else {
         return Ok(None);
     };
-    let later = sum(serial, 1)?;
-    Ok(Some((next, later)))
+    Ok(Some((next, serial)))
 }
 
 // The place in a report behind what it has of the roots born in a lane; or the first where it has something
@@ -136,14 +137,14 @@ fn lane_leaks(
         report.now.tallies.now lane 1 notes.now))) }
 {
     let mut at = from;
-    let mut serial = 1;
+    let mut before = 0;
     for note in notes {
-        let found = after_note(alloc, report, lane, serial, note, at)?;
+        let found = after_note(alloc, report, lane, before, note, at)?;
         let Some(next) = found else {
             return Ok(Err(at));
         };
         at = next.0;
-        serial = next.1;
+        before = next.1;
     }
     Ok(Ok(at))
 }

@@ -10,7 +10,6 @@ mod breach;
 mod busy;
 mod checking;
 mod counting;
-mod counts;
 mod ending;
 mod entries;
 mod fitting;

@@ -48,11 +48,7 @@ pub fn merged<'a>(
         };
         dones.push(done)?;
         left[lane] = &spots[1..];
-        // No memory holds so many notes that the next number is not there.
-        let Some(next) = number.checked_add(1) else {
-            return Err(AllocError);
-        };
-        number = next;
+        number = dones.len() as u64 + 1;
     }
     if none_left(&left) {
         return Ok(Ok(dones));

@@ -6,7 +6,7 @@ ghost use Rattle.run_check.specs.Merging.{dones_in};
 ghost use Rattle.run_check.specs.Reporting.{accesses_in, access_by, live_after, touched, kept_by, dropped_by, leak_by};
 
 use crate::merging::Done;
-use crate::tally::Sums;
+use crate::tally::Totals;
 use pool_law::{Access, Did, Leak, Level, RootId};
 use std::alloc::{AllocError, Global};
 
@@ -105,13 +105,13 @@ fn are_records(records: &[Access], dones: &[Done]) -> bool
 }
 
 // Whether a count is what all retains and releases leave of a root.
-fn is_count(count: u32, sums: &Sums) -> bool
+fn is_count(count: u32, sums: &Totals) -> bool
     ensures { IsTrue result ↔ (count ≡ (1 + sums.now.retains) - sums.now.releases) }
 {
     if sums.releases >= 1 {
-        u64::from(count) == sums.retains.saturating_sub(sums.releases - 1)
+        u128::from(count) == sums.retains.saturating_sub(sums.releases - 1)
     } else {
-        count >= 1 && u64::from(count - 1) == sums.retains
+        count >= 1 && u128::from(count - 1) == sums.retains
     }
 }
 
@@ -135,7 +135,7 @@ pub fn is_leak(
     lane: usize,
     serial: u64,
     capacity: usize,
-    sums: &Sums,
+    sums: &Totals,
     dones: &[Done],
 ) -> bool
     ensures { IsTrue result

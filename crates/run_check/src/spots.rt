@@ -2,7 +2,7 @@
 
 ghost use Rattle.std.specs.Prelude.{◌≡◌, ◌∷◌, ◌++◌, [], ℕ, None, if◌then◌else◌, IfOk, OnOk, MatchOption};
 ghost use Rattle.std.specs.BTreeMap.{get, is_at};
-ghost use Rattle.run_check.specs.Counting.{key_cmp};
+ghost use Rattle.lane_reader.specs.Counting.{key_cmp};
 ghost use Rattle.run_check.specs.Keying.{object_key};
 ghost use Rattle.pool_law.specs.declared.note.Object.{Object};
 ghost use Rattle.pool_law.specs.Same.{same_object};

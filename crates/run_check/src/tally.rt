@@ -1,16 +1,16 @@
 //! How often logs note each root's birth, retains, releases and end.
 
-ghost use Rattle.std.specs.Prelude.{◌≡◌, ◌+◌, ◌-◌, ◌≤◌, ◌↔◌, ◌==◌, ℕ, IsTrue, IfOk, OnOk, if◌then◌else◌};
+ghost use Rattle.std.specs.Prelude.{◌≡◌, ◌+◌, ◌-◌, ◌<◌, ◌↔◌, ◌==◌, ◌^◌, ℕ, IsTrue, IfOk, OnOk, if◌then◌else◌};
 ghost use Rattle.std.specs.List.{AllZip};
 ghost use Rattle.pool_law.specs.declared.id.RootId.{RootId};
 ghost use Rattle.pool_law.specs.Same.{same_root};
-ghost use Rattle.run_check.specs.Tallying.{no_sums, more_births, sums_step, plus, sums_in, sums_after, sums_from, total_sums, others_sum, IsTally, AreTotals};
+ghost use Rattle.run_check.specs.Tallying.{no_sums, more_births, sums_step, no_totals, plus, sums_in, sums_after, sums_from, total_sums, others_sum, AreAtMost, TotalsAtMost, IsTally, AreTotals};
 
 use pool_law::{Did, LaneLog, Note, RefDid, RootId};
 use std::alloc::{AllocError, Global};
 use std::collections::BTreeMap;
 
-/// How often a root is noted to be born, to have its word set, retained, released, and ended.
+/// How often a log notes a root to be born, to have its word set, retained, released, and ended.
 #[derive(Clone, Copy, Drop)]
 pub struct Sums {
     pub births: u64,
@@ -20,14 +20,14 @@ pub struct Sums {
     pub ends: u64,
 }
 
-// A sum. One that 64 bits cannot hold is want of memory: no memory holds so many notes.
-pub(crate) fn sum(a: u64, b: u64) -> Result<u64, AllocError>
-    ensures { IfOk result (λ all. all ≡ a + b) }
-{
-    match a.checked_add(b) {
-        Some(all) => Ok(all),
-        None => Err(AllocError),
-    }
+/// How often all logs do.
+#[derive(Clone, Copy, Drop)]
+pub struct Totals {
+    pub births: u128,
+    pub borns: u128,
+    pub retains: u128,
+    pub releases: u128,
+    pub ends: u128,
 }
 
 impl Sums {
@@ -45,53 +45,66 @@ impl Sums {
     }
 
     // One more birth.
-    fn more_births(&self) -> Result<Sums, AllocError>
-        ensures { IfOk result (λ sums. sums ≡ more_births self.now) }
+    fn more_births(&self) -> Sums
+        requires { AreAtMost (2 ^ 64 - 2) self.now }
+        ensures { result ≡ more_births self.now }
     {
-        let births = sum(self.births, 1)?;
-        Ok(Sums {
-            births,
+        Sums {
+            births: self.births + 1,
             borns: self.borns,
             retains: self.retains,
             releases: self.releases,
             ends: self.ends,
-        })
+        }
     }
 
     // After one more note on the count.
-    fn step(&self, did: RefDid) -> Result<Sums, AllocError>
-        ensures { IfOk result (λ sums. sums ≡ sums_step self.now did) }
+    fn step(&self, did: RefDid) -> Sums
+        requires { AreAtMost (2 ^ 64 - 2) self.now }
+        ensures { result ≡ sums_step self.now did }
     {
         let mut sums = *self;
         match did {
-            RefDid::Born => sums.borns = sum(sums.borns, 1)?,
-            RefDid::Retain => sums.retains = sum(sums.retains, 1)?,
-            RefDid::Kept => sums.releases = sum(sums.releases, 1)?,
+            RefDid::Born => sums.borns += 1,
+            RefDid::Retain => sums.retains += 1,
+            RefDid::Kept => sums.releases += 1,
             RefDid::Ended => {
-                sums.releases = sum(sums.releases, 1)?;
-                sums.ends = sum(sums.ends, 1)?;
+                sums.releases += 1;
+                sums.ends += 1;
             }
             RefDid::Vacated | RefDid::Look(_) => {}
         }
-        Ok(sums)
+        sums
+    }
+}
+
+impl Totals {
+    /// Nothing is noted.
+    pub fn none() -> Totals
+        ensures { result ≡ no_totals }
+    {
+        Totals {
+            births: 0,
+            borns: 0,
+            retains: 0,
+            releases: 0,
+            ends: 0,
+        }
     }
 
-    // Both together.
-    fn plus(&self, other: &Sums) -> Result<Sums, AllocError>
-        ensures { IfOk result (λ sums. sums ≡ plus self.now other.now) }
+    // These with the sums of one more log.
+    fn plus(&self, sums: &Sums) -> Totals
+        requires { TotalsAtMost (2 ^ 128 - 2 ^ 64) self.now }
+        ensures sums { result ≡ plus sums.now self.now }
+        ensures most { (n : ℕ) → TotalsAtMost n self.now → TotalsAtMost (n + (2 ^ 64 - 1)) result }
     {
-        let births = sum(self.births, other.births)?;
-        let borns = sum(self.borns, other.borns)?;
-        let retains = sum(self.retains, other.retains)?;
-        let releases = sum(self.releases, other.releases)?;
-        let ends = sum(self.ends, other.ends)?;
-        Ok(Sums {
-            births,
-            borns,
-            retains,
-            releases,
-            ends,
-        })
+        Totals {
+            births: u128::from(sums.births) + self.births,
+            borns: u128::from(sums.borns) + self.borns,
+            retains: u128::from(sums.retains) + self.retains,
+            releases: u128::from(sums.releases) + self.releases,
+            ends: u128::from(sums.ends) + self.ends,
+        }
     }
 
     /// Whether the total of a root is 0, which is one for its birth, and all retains less all
@@ -159,12 +172,13 @@ impl Tally {
 
     /// The sums after a note.
     pub fn pass(&mut self, note: &Note) -> Result<(), AllocError>
+        requires { (root : RootId) → AreAtMost (2 ^ 64 - 2) (sums_in self.old root) }
         ensures { (other : RootId) → OnOk result (sums_in self.new other
             ≡ sums_after other (sums_in self.old other) note.now) }
     {
         match note {
             Note::Ref { root, did } => {
-                let sums = self.of(root).step(*did)?;
+                let sums = self.of(root).step(*did);
                 self.put(root, sums)
             }
             Note::At {
@@ -173,7 +187,7 @@ impl Tally {
                 did,
             } => match did {
                 Did::Birth { root, region: _ } => {
-                    let sums = self.of(root).more_births()?;
+                    let sums = self.of(root).more_births();
                     self.put(root, sums)
                 }
                 _ => Ok(()),
@@ -208,14 +222,14 @@ pub fn tallies_of(alloc: Global, logs: &[LaneLog]) -> Result<Vec<Tally>, AllocEr
 }
 
 /// The sums of a root over all logs.
-pub fn total_of(tallies: &[Tally], root: &RootId) -> Result<Sums, AllocError>
-    ensures { IfOk result (λ sums. sums ≡ total_sums tallies.now root.now) }
+pub fn total_of(tallies: &[Tally], root: &RootId) -> Totals
+    ensures { result ≡ total_sums tallies.now root.now }
 {
-    let mut sums = Sums::none();
+    let mut totals = Totals::none();
     for tally in tallies {
-        sums = sums.plus(&tally.of(root))?;
+        totals = totals.plus(&tally.of(root));
     }
-    Ok(sums)
+    totals
 }
 
 // The retains of a root in the log at a place, and 0 for this lane's.
@@ -229,15 +243,16 @@ fn other_retains(tally: &Tally, root: &RootId, at: usize, lane: usize) -> u64
     }
 }
 
-/// The retains of a root in the logs other than this lane's.
-pub fn others_of(tallies: &[Tally], root: &RootId, lane: usize) -> Result<u64, AllocError>
-    ensures { IfOk result (λ all. all ≡ others_sum root.now lane 0 tallies.now) }
+/// The retains of a root in the logs other than this lane's. The sum with those of one more log has
+/// 128 bits too.
+pub fn others_of(tallies: &[Tally], root: &RootId, lane: usize) -> u128
+    ensures sum { result ≡ others_sum root.now lane 0 tallies.now }
+    ensures room { result + 2 ^ 64 < 2 ^ 128 }
 {
     let mut all = 0;
     for at in 0..tallies.len() {
         let more = other_retains(&tallies[at], root, at, lane);
-        let next = sum(all, more)?;
-        all = next;
+        all += u128::from(more);
     }
-    Ok(all)
+    all
 }

@@ -1,7 +1,8 @@
 use Rattle.std.proofs.Common.{◌≡◌, ℕ, ◌<◌, ◌≤◌, length, take, sym, subst, arith, ◌∙◌}
 use Rattle.std.proofs.lemmas.Bool.{false≢true}
 use Rattle.std.proofs.lemmas.List.{take_more_same}
-use Rattle.run_check.proofs.DifferLemmas.{get-there, differ-lengths, same-whole, same-some}
+use Rattle.std.proofs.lemmas.Option.{same_Some}
+use Rattle.run_check.proofs.DifferLemmas.{get-there, differ-lengths, same-whole}
 use Rattle.run_check.proofs.ending.first_unlike.Goals as goal
 
 pub returns-then-not-same_end : goal.returns-then-not-same_end
@@ -15,7 +16,7 @@ returns-then-not-same_end c =
       same = c.loop-at.invariant;
       unlike = λ e.
           false≢true (sym c.if-not-same_end.true ∙ c.same_end.ensures.1
-          (same-some _ _ (sym (get-there a at _ in_a) ∙ e ∙ get-there b at _ in_b)));
+          (same_Some _ _ (sym (get-there a at _ in_a) ∙ e ∙ get-there b at _ in_b)));
     }
 
 pub loop-at-preserved : goal.loop-at-preserved

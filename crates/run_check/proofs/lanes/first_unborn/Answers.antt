@@ -38,7 +38,7 @@ returns-in-Some c =
     (λ ns born.
     each-hold g bare names_root right ns (λ root some.
     subst (λ (n : ℕ). 0 < n) (sym (same root)) (born root some)))
-    (rw c.in-Some.is at c.in_ok-at.ensures))
+    (rw c.in-Some.is at c.unborn_at.ensures))
 
 pub loop-lane-preserved : goal.loop-lane-preserved
 loop-lane-preserved c =
@@ -52,7 +52,7 @@ loop-lane-preserved c =
     let right : RootId → Type 0 = λ root. 0 < (total_sums tallies root).births in
     let here : of_lane (notes_in logs) lane ≡ notes =
     notes-get logs lane c.index-logs-lane.result (search rules) ∙ sym c.items.ensures in
-    let holds : NamesHold tallies notes = rw c.in_default.is at c.in_ok-at.ensures in
+    let holds : NamesHold tallies notes = rw c.in_default.is at c.unborn_at.ensures in
     below_more (λ (k : ℕ). AreBorn all (of_lane all k)) lane c.loop-lane.invariant
     (subst (λ (es : List ToldNote). AreBorn all es)
     (sym (entries-lane (notes_in logs) lane ∙ ap (λ (ns : List Note). map g ns) here))

@@ -1,11 +1,11 @@
-use Rattle.std.proofs.Common.{rules, ◌≡◌, ℕ, ◌+◌, ◌<◌, ◌≤◌, List, [], ◌∷◌, ◌++◌, length, take, drop, append_assoc, sym, ap, ◌∙◌}
+use Rattle.std.proofs.Common.{rules, arith, ◌≡◌, ℕ, ◌+◌, ◌<◌, ◌≤◌, List, [], ◌∷◌, ◌++◌, length, take, drop, append_assoc, sym, ap, ◌∙◌}
 use Rattle.std.proofs.lemmas.List.{drop_more, drop_all}
 use Rattle.pool_law.specs.declared.note.Note.{Note}
 use Rattle.pool_law.specs.declared.report.Leak.{Leak}
 use Rattle.pool_law.specs.Leaks.{births}
 use Rattle.pool_law.proofs.HistoryLemmas.{append-nil}
 use Rattle.run_check.specs.Reporting.{leaks_in}
-use Rattle.run_check.proofs.LeakLemmas.{leaks-front}
+use Rattle.run_check.proofs.LeakLemmas.{leaks-front, one-birth}
 use Rattle.run_check.proofs.ReportLemmas.{goes-behind, strays-within}
 use Rattle.run_check.proofs.leaks.lane_leaks.Goals as goal
 
@@ -16,11 +16,11 @@ loop-note-preserved c =
     let leaks = r.leaks.now in
     let notes = c.args.notes.now in
     let i = c.loop-note.note-index in
-    let serial = c.loop-note.serial in
+    let serial = c.loop-note.before + 1 in
     let note = c.note-item.result in
     let next = c.in-Some.next in
     let these : List Leak = L serial (note ∷ []) in
-    let more : List Leak = L next.1 (drop (i + 1) notes) in
+    let more : List Leak = L (next.1 + 1) (drop (i + 1) notes) in
     let there : i < length notes = search rules in
     let step : drop i notes ≡ note ∷ drop (i + 1) notes =
     drop_more notes i note there ∙ ap (λ (n : Note). n ∷ drop (i + 1) notes) (sym c.note-item.is) in
@@ -28,13 +28,19 @@ loop-note-preserved c =
     let front : L serial (drop i notes) ≡ these ++ more =
     ap (λ (ns : List Note). L serial ns) step
     ∙ leaks-front r.shape.now r.histories.now r.tallies.now c.args.lane serial note (drop (i + 1) notes)
-    ∙ ap (λ (k : ℕ). these ++ L k (drop (i + 1) notes)) (sym told.1) in
+    ∙ ap (λ (k : ℕ). these ++ L k (drop (i + 1) notes)) (omega (arith, told.1)) in
     record {
       expected =
           goes-behind leaks these more (take c.args.from leaks ++ L 1 notes) c.loop-note.at next.0 told.0
           (c.loop-note.invariant.expected ∙ ap (λ (ws : List Leak). take c.loop-note.at leaks ++ ws) front);
       inside = told.0.1;
+      few = omega (arith, told.1, c.loop-note.invariant.few, one-birth note);
     }
+
+pub after_note-requires-clause-before : goal.after_note-requires-clause-before
+after_note-requires-clause-before c =
+    let there : c.loop-note.note-index < length c.args.notes.now = search rules in
+    omega (arith, there, c.loop-note.invariant.few)
 
 pub returns-in_default : goal.returns-in_default
 returns-in_default c rest =
@@ -43,7 +49,7 @@ returns-in_default c rest =
     let leaks = r.leaks.now in
     let notes = c.args.notes.now in
     let i = c.loop-note.note-index in
-    let serial = c.loop-note.serial in
+    let serial = c.loop-note.before + 1 in
     let note = c.note-item.result in
     let these : List Leak = L serial (note ∷ []) in
     let front : List Leak = take c.args.from leaks in
@@ -72,8 +78,8 @@ returns c =
     let notes = c.args.notes.now in
     let i = c.loop-note.note-index in
     let past : length notes ≤ i = search rules in
-    let none : L c.loop-note.serial (drop i notes) ≡ [] =
-    ap (λ (ns : List Note). L c.loop-note.serial ns) (drop_all i notes past) in (
+    let none : L (c.loop-note.before + 1) (drop i notes) ≡ [] =
+    ap (λ (ns : List Note). L (c.loop-note.before + 1) ns) (drop_all i notes past) in (
       sym (c.loop-note.invariant.expected
           ∙ ap (λ (ws : List Leak). take c.loop-note.at leaks ++ ws) none
           ∙ append-nil (take c.loop-note.at leaks)),

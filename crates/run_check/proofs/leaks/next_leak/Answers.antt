@@ -13,7 +13,7 @@ pub returns-then-at-report : goal.returns-then-at-report
 returns-then-at-report c =
     let r = c.args.report.now in
     let root = c.args.root.now in
-    let sums = c.in_ok-sums.sums in
+    let sums = c.total_of-sums.result in
     let leak = leak_by r.shape.now.level c.args.lane c.args.serial (capacity_by r.histories.now root) sums
     (accesses root false (history_in r.histories.now (Object.Root root.place))) in
     let live : (1 + sums.retains) - sums.releases ≡ 0 → ⊥ =
@@ -21,8 +21,8 @@ returns-then-at-report c =
     let sampled : is_sampled r.shape.now.level r.shape.now.interval c.args.serial ≡ true =
     sym c.is_sampled.ensures ∙ c.if-not-is_sampled.false in
     let one : one_leak r.shape.now r.histories.now r.tallies.now c.args.lane c.args.serial root ≡ leak ∷ [] =
-    one-leak-is r.shape.now r.histories.now r.tallies.now c.args.lane c.args.serial root sums c.in_ok-sums.ensures live
-    sampled in
+    one-leak-is r.shape.now r.histories.now r.tallies.now c.args.lane c.args.serial root sums
+    c.total_of-sums.ensures live sampled in
     subst (λ (ls : List Leak). Strays r.leaks.now c.args.at ls c.args.at) (sym one)
     (strays-past r.leaks.now c.args.at leak c.requires.inside c.if-at-report.true)
 
@@ -30,7 +30,7 @@ pub returns-then-not-branch : goal.returns-then-not-branch
 returns-then-not-branch c =
     let r = c.args.report.now in
     let root = c.args.root.now in
-    let sums = c.in_ok-sums.sums in
+    let sums = c.total_of-sums.result in
     let leak = leak_by r.shape.now.level c.args.lane c.args.serial (capacity_by r.histories.now root) sums
     (accesses root false (history_in r.histories.now (Object.Root root.place))) in
     let live : (1 + sums.retains) - sums.releases ≡ 0 → ⊥ =
@@ -38,8 +38,8 @@ returns-then-not-branch c =
     let sampled : is_sampled r.shape.now.level r.shape.now.interval c.args.serial ≡ true =
     sym c.is_sampled.ensures ∙ c.if-not-is_sampled.false in
     let one : one_leak r.shape.now r.histories.now r.tallies.now c.args.lane c.args.serial root ≡ leak ∷ [] =
-    one-leak-is r.shape.now r.histories.now r.tallies.now c.args.lane c.args.serial root sums c.in_ok-sums.ensures live
-    sampled in
+    one-leak-is r.shape.now r.histories.now r.tallies.now c.args.lane c.args.serial root sums
+    c.total_of-sums.ensures live sampled in
     let inside : c.args.at < length r.leaks.now = omega arith in
     subst (λ (ls : List Leak). Strays r.leaks.now c.args.at ls c.args.at) (sym one)
     (strays-here r.leaks.now c.args.at c.index-report-at.result leak inside
@@ -49,7 +49,7 @@ pub returns : goal.returns
 returns c =
     let r = c.args.report.now in
     let root = c.args.root.now in
-    let sums = c.in_ok-sums.sums in
+    let sums = c.total_of-sums.result in
     let leak = leak_by r.shape.now.level c.args.lane c.args.serial (capacity_by r.histories.now root) sums
     (accesses root false (history_in r.histories.now (Object.Root root.place))) in
     let live : (1 + sums.retains) - sums.releases ≡ 0 → ⊥ =
@@ -57,8 +57,8 @@ returns c =
     let sampled : is_sampled r.shape.now.level r.shape.now.interval c.args.serial ≡ true =
     sym c.is_sampled.ensures ∙ c.if-not-is_sampled.false in
     let one : one_leak r.shape.now r.histories.now r.tallies.now c.args.lane c.args.serial root ≡ leak ∷ [] =
-    one-leak-is r.shape.now r.histories.now r.tallies.now c.args.lane c.args.serial root sums c.in_ok-sums.ensures live
-    sampled in
+    one-leak-is r.shape.now r.histories.now r.tallies.now c.args.lane c.args.serial root sums
+    c.total_of-sums.ensures live sampled in
     let inside : c.args.at < length r.leaks.now = omega arith in
     subst (λ (ls : List Leak). GoesOn r.leaks.now c.args.at ls (c.args.at + 1)) (sym one)
     (goes-by-one r.leaks.now c.args.at c.index-report-at.result leak inside

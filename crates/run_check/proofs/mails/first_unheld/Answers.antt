@@ -1,7 +1,6 @@
 use Rattle.std.proofs.Common.{◌≡◌, ℕ, ◌+◌, ◌-◌, ◌≤◌, length, subst, sym, below_more, ⊎_elim, arith, ◌∙◌}
-use Rattle.std.proofs.lemmas.Bool.{false≢true}
+use Rattle.std.proofs.lemmas.Bool.{cases_lt, false≢true}
 use Rattle.run_check.specs.Mailing.{Passes}
-use Rattle.run_check.proofs.LaneLemmas.{below-or}
 use Rattle.run_check.proofs.MailLemmas.{turn-past, of-past}
 use Rattle.run_check.proofs.mails.first_unheld.Goals as goal
 
@@ -35,4 +34,4 @@ returns c k =
     (λ inside. c.loop-at.invariant k inside)
     (λ past.
     (turn-past posts k (omega (arith, past, in_posts)), of-past posts fetches k (omega (arith, past, in_fetches))))
-    (below-or k c.loop-at.at)
+    (cases_lt k c.loop-at.at)

@@ -1,11 +1,11 @@
-use Rattle.std.proofs.Common.{ℕ, ◌-◌, take, refl, sym, ap, ◌∙◌}
+use Rattle.std.proofs.Common.{rules, ℕ, ◌≡◌, ◌+◌, ◌-◌, length, take, refl, sym, ap, ◌∙◌}
 use Rattle.std.proofs.lemmas.List.{take-map}
 use Rattle.std.proofs.lemmas.Bool.{false≢true}
 use Rattle.run_check.specs.Gathering.{left_of}
 use Rattle.run_check.specs.Merging.{dones_in}
 use Rattle.run_check.specs.declared.merging.Done.{Done}
 use Rattle.run_check.proofs.FrontLemmas.{stops}
-use Rattle.run_check.proofs.MergingLemmas.{so-far-none, so-far-next, left_total-set, part-is, part-shorter, none-first}
+use Rattle.run_check.proofs.MergingLemmas.{so-far-none, so-far-next, numbered-next, left_total-set, part-is, part-shorter, none-first}
 use Rattle.run_check.proofs.merging.merged.Goals as goal
 
 pub loop-lane-init : goal.loop-lane-init
@@ -27,11 +27,15 @@ loop-lane-smaller c =
 pub loop-lane-preserved : goal.loop-lane-preserved
 loop-lane-preserved c =
     let spots = c.index-spots.result.now in
+    let size : c.len.result ≡ length c.push.new.self.items = search rules in
+    let next : c.len.result + 1 ≡ c.loop-lane.number + 1 =
+    numbered-next c.loop-lane.dones.items c.push.new.self.items _ c.loop-lane.number c.len.result
+    c.loop-lane.invariant.numbers c.in_ok-push.ensures.items size in
     so-far-next (left_of c.args.left.items) c.loop-lane.left.items c.in-Some.lane c.loop-lane.number
-    c.in-Some-checked_add.next spots _ c.in-Some-first_of.first c.loop-lane.dones.items c.push.new.self.items _
+    (c.len.result + 1) spots _ c.in-Some-first_of.first c.loop-lane.dones.items c.push.new.self.items _
     c.loop-lane.invariant (rw c.deref.ensures.value at c.in-Some.ensures.0)
     (rw c.deref.ensures.value at c.in-Some.ensures.1) c.index-spots.ensures c.in-Some-first_of.ensures.0
-    (part-is spots.now) c.in_ok-push.ensures.items refl refl c.in-Some-checked_add.ensures.1
+    (part-is spots.now) c.in_ok-push.ensures.items refl refl next
 
 pub returns : goal.returns
 returns c =

@@ -1,7 +1,7 @@
 use Rattle.std.proofs.Common.{rules, ◌≡◌, ℕ, ◌≤◌, [], length, refl, sym, below_more, ⊎_elim, arith, ◌∙◌}
+use Rattle.std.proofs.lemmas.Bool.{cases_lt}
 use Rattle.run_check.specs.Gathering.{spots_behind, left_of}
 use Rattle.run_check.proofs.GatheringLemmas.{left-at, left-past}
-use Rattle.run_check.proofs.LaneLemmas.{below-or}
 use Rattle.run_check.proofs.MergingLemmas.{no-spots, some-spots}
 use Rattle.run_check.proofs.merging.none_left.Goals as goal
 
@@ -36,6 +36,6 @@ returns c =
           ⊎_elim
           (λ inside. c.loop-spots.invariant lane inside)
           (λ past. left-past left lane (omega (arith, past, all)))
-          (below-or lane i),
+          (cases_lt lane i),
       λ _. refl,
     )

@@ -15,7 +15,8 @@ loop-at-preserved c =
     ≡ more + others_sum root lane (at + 1) (drop (at + 1) tallies) =
     others-step root lane at at tallies c.index-tallies-at.result there c.index-tallies-at.is
     ∙ ap (λ (n : ℕ). n + others_sum root lane (at + 1) (drop (at + 1) tallies)) (sym c.other_retains-more.ensures) in
-    let next : c.in_ok-next.next ≡ c.loop-at.all + more = c.in_ok-next.ensures in
     let before : c.loop-at.all + others_sum root lane at (drop at tallies)
-    ≡ others_sum root lane 0 tallies = c.loop-at.invariant in
-    omega (arith, step, next, before)
+    ≡ others_sum root lane 0 tallies = c.loop-at.invariant.0 in
+    let more_is = c.from-all.ensures in
+    let small = c.other_retains-more.type_inv in
+    (omega (arith, step, more_is, before), omega (arith, more_is, small, c.loop-at.invariant.1))

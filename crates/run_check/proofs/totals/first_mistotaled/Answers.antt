@@ -23,7 +23,7 @@ returns-in-Some c =
     let i = c.loop-log.log-index in
     let here : of_lane (notes_in logs) i ≡ c.items.result.now =
     notes-at logs i c.log-item.result (search rules) c.log-item.is ∙ sym c.items.ensures in
-    let found = rw c.in-Some.is at c.in_ok-root.ensures in (
+    let found = rw c.in-Some.is at c.mistotaled_in.ensures in (
       any-over g bare is_birth right root (notes_in logs) i
           (subst (λ (ns : List Note). IsTrue (list_any (is_birth root) ns)) (sym here) found.0),
       λ total. found.1 (totals-back g bare tallies root logs c.requires total),
@@ -37,7 +37,7 @@ loop-log-preserved c =
     let here : of_lane (notes_in logs) i ≡ c.items.result.now =
     notes-at logs i c.log-item.result (search rules) c.log-item.is ∙ sym c.items.ensures in
     below_more (λ (k : ℕ). BirthsHold tallies (of_lane (notes_in logs) k)) i c.loop-log.invariant
-    (subst (λ (ns : List Note). BirthsHold tallies ns) (sym here) (rw c.in_default.is at c.in_ok-root.ensures))
+    (subst (λ (ns : List Note). BirthsHold tallies ns) (sym here) (rw c.in_default.is at c.mistotaled_in.ensures))
 
 pub returns : goal.returns
 returns c =

@@ -21,7 +21,7 @@ pub returns-in-Some : goal.returns-in-Some
 returns-in-Some c =
     let notes = c.args.notes.now in
     let root = c.in-Some.root in
-    let found = rw c.in-Some.is at c.in_ok-root.ensures in (
+    let found = rw c.in-Some.is at c.mistotaled.ensures in (
       list_any_at (is_birth root) notes c.loop-note.note-index c.note-item.result (search rules)
           (ap (is_birth root) (sym c.note-item.is) ∙ found.0),
       found.1,
@@ -40,7 +40,7 @@ loop-note-preserved c =
     drop_more notes i note there ∙ ap (λ (n : Note). n ∷ drop (i + 1) notes) (sym c.note-item.is) in
     reached-more asks (λ s n. s) holds (λ s. tt) (each-front is_birth right) (each-further is_birth right) tt
     notes i tt note (drop (i + 1) notes) c.loop-note.invariant step tt refl
-    (rw c.in_default.is at c.in_ok-root.ensures)
+    (rw c.in_default.is at c.mistotaled.ensures)
 
 pub returns : goal.returns
 returns c =

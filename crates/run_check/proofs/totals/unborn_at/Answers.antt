@@ -17,8 +17,8 @@ loop-at-init c =
     reached-none asks (λ s n. s) holds (λ s. tt) (each-front names_root right) (each-further names_root right) tt
     c.args.notes.now tt refl
 
-pub returns-then-not-branch : goal.returns-then-not-branch
-returns-then-not-branch c =
+pub returns-then-not-name_holds : goal.returns-then-not-name_holds
+returns-then-not-name_holds c =
     let right = λ (root : RootId). 0 < (total_sums c.args.tallies.now root).births in
     let asks = λ (s : Unit {0}) (n : Note). NoteHolds names_root right n in
     let holds = λ (s : Unit {0}) (ns : List Note). NamesHold c.args.tallies.now ns in
@@ -30,7 +30,7 @@ returns-then-not-branch c =
     drop_more notes i note there ∙ ap (λ (n : Note). n ∷ drop (i + 1) notes) (sym c.index-notes-at.is) in
     breaks-here asks (λ s n. s) holds (λ s. tt) (each-front names_root right) (each-further names_root right) tt
     notes i tt note (drop (i + 1) notes) c.loop-at.invariant step
-    (λ born. false≢true (sym c.if-not-branch.true ∙ c.in_ok-name_holds.ensures.1 born))
+    (λ born. false≢true (sym c.if-not-name_holds.true ∙ c.name_holds.ensures.1 born))
 
 pub loop-at-preserved : goal.loop-at-preserved
 loop-at-preserved c =
@@ -45,7 +45,7 @@ loop-at-preserved c =
     drop_more notes i note there ∙ ap (λ (n : Note). n ∷ drop (i + 1) notes) (sym c.index-notes-at.is) in
     reached-more asks (λ s n. s) holds (λ s. tt) (each-front names_root right) (each-further names_root right) tt
     notes i tt note (drop (i + 1) notes) c.loop-at.invariant step tt refl
-    (c.in_ok-name_holds.ensures.0 c.if-not-branch.false)
+    (c.name_holds.ensures.0 c.if-not-name_holds.false)
 
 pub returns : goal.returns
 returns c =

@@ -3,7 +3,7 @@ use Rattle.std.specs.Prelude.{unwrap_or, if◌then◌else◌}
 use Rattle.std.specs.BTreeMap.{get, is_at}
 use Rattle.pool_law.specs.Same.{same_object}
 use Rattle.run_check.specs.declared.busy.Had.{Had}
-use Rattle.run_check.specs.Counting.{key_cmp}
+use Rattle.lane_reader.specs.Counting.{key_cmp}
 use Rattle.run_check.specs.Keying.{object_key}
 use Rattle.run_check.specs.Marking.{none_had}
 use Rattle.run_check.proofs.KeyLemmas.{is_at-object, same-object-swap}

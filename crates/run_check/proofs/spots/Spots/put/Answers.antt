@@ -1,6 +1,6 @@
 use Rattle.std.proofs.Common.{refl}
 use Rattle.std.specs.BTreeMap.{get}
-use Rattle.run_check.specs.Counting.{key_cmp}
+use Rattle.lane_reader.specs.Counting.{key_cmp}
 use Rattle.run_check.specs.Spotting.{spots_at}
 use Rattle.run_check.proofs.SpotLemmas.{put-spot, spots-pushed}
 use Rattle.run_check.proofs.spots.Spots.put.Goals as goal

@@ -7,13 +7,13 @@ use Rattle.run_check.specs.Tallying.{more_births, sums_step, sums_in, sums_after
 use Rattle.run_check.proofs.TallyLemmas.{pass-ref, pass-birth}
 use Rattle.run_check.proofs.tally.Tally.pass.Goals as goal
 
-pub returns-in_ok-sums-in-Ref : goal.returns-in_ok-sums-in-Ref
-returns-in_ok-sums-in-Ref c other =
+pub returns-in-Ref : goal.returns-in-Ref
+returns-in-Ref c other =
     let s = c.args.self.now in
     let root = c.in-Ref.root in
-    let sums = c.in_ok-sums-in-Ref.sums in
+    let sums = c.step-sums.result in
     let step : sums ≡ sums_step (sums_in s root) c.in-Ref.did =
-    c.in_ok-sums-in-Ref.ensures ∙ ap (λ (a : Sums). sums_step a c.in-Ref.did) c.of.ensures in
+    c.step-sums.ensures ∙ ap (λ (a : Sums). sums_step a c.in-Ref.did) c.of.ensures in
     on_ok_weaker c.put.result
     (λ e.
     e
@@ -21,13 +21,13 @@ returns-in_ok-sums-in-Ref c other =
     ∙ ap (sums_after other (sums_in s other)) (sym c.in-Ref.is))
     (c.put.ensures other)
 
-pub returns-in_ok-sums-in-Birth : goal.returns-in_ok-sums-in-Birth
-returns-in_ok-sums-in-Birth c other =
+pub returns-in-Birth : goal.returns-in-Birth
+returns-in-Birth c other =
     let s = c.args.self.now in
     let root = c.in-Birth.root in
-    let sums = c.in_ok-sums-in-Birth.sums in
+    let sums = c.more_births-sums.result in
     let step : sums ≡ more_births (sums_in s root) =
-    c.in_ok-sums-in-Birth.ensures ∙ ap (λ (a : Sums). more_births a) c.of-in-Birth.ensures in
+    c.more_births-sums.ensures ∙ ap (λ (a : Sums). more_births a) c.of-in-Birth.ensures in
     let is : c.args.note.now ≡ Note.At c.in-At.object c.in-At.number (Did.Birth root c.in-Birth.region) =
     c.in-At.is ∙ ap (λ (d : Did). Note.At c.in-At.object c.in-At.number d) c.in-Birth.is in
     on_ok_weaker c.put-in-Birth.result

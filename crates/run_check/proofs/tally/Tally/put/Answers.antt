@@ -3,9 +3,9 @@ use Rattle.std.specs.Prelude.{unwrap_or, if◌then◌else◌}
 use Rattle.std.specs.BTreeMap.{get}
 use Rattle.pool_law.specs.Same.{same_root}
 use Rattle.run_check.specs.declared.tally.Sums.{Sums}
-use Rattle.run_check.specs.Counting.{key_cmp, key_of}
+use Rattle.lane_reader.specs.Counting.{key_cmp, key_of}
 use Rattle.run_check.specs.Tallying.{no_sums}
-use Rattle.run_check.proofs.CountLemmas.{is_at-key}
+use Rattle.lane_reader.proofs.CountLemmas.{is_at-key}
 use Rattle.run_check.proofs.TallyLemmas.{sums-put}
 use Rattle.run_check.proofs.tally.Tally.put.Goals as goal
 
