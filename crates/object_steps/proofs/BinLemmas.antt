@@ -3,6 +3,7 @@ use Rattle.std.proofs.Common.{◌≡◌, ℕ, zero, suc, ◌+◌, ◌≤◌, Lis
 use Rattle.std.specs.Prelude.{map, ◌==◌, ◌||◌, cond}
 use Rattle.std.specs.BTreeMap.{is_at}
 use Rattle.std.specs.BTreeSet.{BTreeSet, contains}
+use Rattle.std.proofs.lemmas.Bool.{or_parts}
 use Rattle.std.proofs.lemmas.List.{map-append}
 use Rattle.std.proofs.lemmas.List.Folds.{list_any-append}
 use Rattle.size_classes.specs.Sizes.{below}
@@ -55,20 +56,10 @@ place-behind first (suc n) m behind =
 pub next-other : (first n : ℕ) (places : List ℕ) → places ≡ places_from first n → has_place (first + n) places ≡ false
 next-other first n places e = ap (has_place (first + n)) e ∙ place-behind first n n (omega arith)
 
--- of two that are both false
-or-first : (a b : Bool) → (a || b) ≡ false → a ≡ false
-or-first false b e = refl
-or-first true b e = absurd (cc e)
-
-or-second : (a b : Bool) → (a || b) ≡ false → b ≡ false
-or-second false b e = e
-or-second true b e = absurd (cc e)
-
 once-more : (places : List ℕ) (new : ℕ) → AreOnce places → has_place new places ≡ false → AreOnce (places ++ new ∷ [])
 once-more [] new once other = (refl, tt)
 once-more (p ∷ places) new once other =
-    let apart : (p == new) ≡ false = or-first (p == new) (has_place new places) other in
-    let later : has_place new places ≡ false = or-second (p == new) (has_place new places) other in
+    let (apart, later) = or_parts (p == new) (has_place new places) other in
     let back : (new == p) ≡ false =
     other-number new p (λ same. absurd (cc (eq-eqb p new (sym same), apart))) in (
       has-more p new places ∙ rw (once.0, back) refl,

@@ -86,9 +86,8 @@ impl Arena {
         ensures { OnOk result
             (ends.new.items ≡ ends.old.items ++ chunk_ends sizes.now number self.now) }
     {
-        // What an arena keeps bounds its places.
-        let _ = &self.lists;
-        for place in 0..self.chunks.len() {
+        let places = self.chunks.len();
+        for place in 0..places {
             if let Some(chunk) = &self.chunks[place] {
                 self.push_end(sizes, number, place as u32, chunk, ends)?;
             }

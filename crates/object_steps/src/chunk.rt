@@ -162,8 +162,6 @@ impl Chunk {
             ≡ option_map (λ run. run.0) (chosen sizes.now pages (free_runs 0 self.now))) }
         ensures runs { AreRuns self.now }
     {
-        // What a chunk keeps holds of its runs.
-        let _ = &self.runs;
         let runs = self.free_runs(alloc)?;
         let least = least_class(sizes, pages, &runs);
         Ok(first_of_class(sizes, pages, least, &runs))
@@ -171,7 +169,8 @@ impl Chunk {
 
     // The free runs, each by its first page and its pages.
     fn free_runs(&self, alloc: Global) -> Result<Vec<(u32, u32)>, AllocError>
-        ensures { IfOk result (λ runs. runs.items ≡ free_runs 0 self.now) }
+        ensures free { IfOk result (λ runs. runs.items ≡ free_runs 0 self.now) }
+        ensures runs { AreRuns self.now }
     {
         let mut runs = Vec::new(alloc);
         let mut page = 0;

@@ -5,8 +5,8 @@
 //! step for each note, and says none where a note may not stand. It stands on `pool_law`,
 //! `size_classes` and `ground` alone. Of this a checker of runs takes whether an object accepts a history
 //! (`accepts`), what an arena comes to (`arena_after`), how many bytes a root has at last
-//! (`capacity_after`), what a root place tells of its notes (`told_of_each`), the size classes and the
-//! limits of a shape.
+//! (`capacity_after`), what a root place tells of its notes (`told_of_each`), whether two lists of bytes
+//! are the same (`same_bytes`), the size classes and the limits of a shape.
 
 mod arena;
 mod bin;
@@ -32,6 +32,7 @@ pub use limits::is_shape;
 pub use lists::same_list;
 pub use objects::{accepts, arena_after, capacity_after};
 pub use place::RootPlace;
+pub use same::same_bytes;
 pub use sizes::Sizes;
 pub use telling::told_of_each;
 pub use told::PlaceTold;

@@ -12,9 +12,9 @@ pub(crate) fn same_taking(a: &RegionId, b: &RegionId) -> bool
     a.place == b.place && (a.class == b.class && (a.taking == b.taking && a.owner == b.owner))
 }
 
-/// Whether two lists of bytes are the same.
+/// Whether two lists of bytes are the same, in length and each byte.
 #[tactic(auto, using(crate::proofs::BytesLemmas::equal_is_same))]
-pub(crate) fn same_bytes(a: &[u8], b: &[u8]) -> bool
+pub fn same_bytes(a: &[u8], b: &[u8]) -> bool
     ensures { result ≡ same_bytes a.now b.now }
 {
     a == b

@@ -1,5 +1,5 @@
 -- How many lanes are accepted.
-use Rattle.std.proofs.Common.{◌≡◌, ℕ, ◌+◌, ◌≤◌, Bool, true, false, List, [], ◌∷◌, ◌++◌, length, refl, ap, subst, arith, length-append}
+use Rattle.std.proofs.Common.{◌≡◌, ◌≤◌, Bool, true, false, List, [], ◌∷◌, length, refl, subst, arith}
 use Rattle.std.specs.Prelude.{Option, Some, None, Result, Ok, Err, if◌then◌else◌, nat_lt}
 use Rattle.std.specs.Option.{option_map_or}
 use Rattle.std.proofs.lemmas.Bool.Decides.{nat_tests}
@@ -8,10 +8,9 @@ use Rattle.pool_law.specs.declared.command.Command.{Command}
 use Rattle.pool_law.specs.Stuck.{command_count}
 use Rattle.trace_text.specs.declared.TraceNo.{TraceNo}
 use Rattle.trace_text.specs.Items.{array_in}
-use Rattle.trace_text.specs.Lane.{lane_in}
 use Rattle.pool_law.specs.Traces.{byte_limit, bytes_asked, command_limit}
-use Rattle.trace_text.specs.Reading.{accepted, lanes_after, lanes_in, limited, trace_in}
-use Rattle.trace_text.proofs.ReadingFits.{accepted_so, in_turn}
+use Rattle.trace_text.specs.Reading.{accepted, lanes_in, limited, trace_in}
+use Rattle.trace_text.proofs.ReadingFits.{lanes_long, accepted_so}
 
 map_ok : {X A : Type 0} (f : X → Result A TraceNo) (o : Option X) (why : TraceNo) (a : A)
     → option_map_or f o (Err why) ≡ Ok a
@@ -19,17 +18,9 @@ map_ok : {X A : Type 0} (f : X → Result A TraceNo) (o : Option X) (why : Trace
 map_ok f (Some x) why a e = (x, e)
 map_ok f None why a e = absurd (cc)
 
-after_many : (n : ℕ) (front : List (List Command)) (ds : List Data) (out : List (List Command))
-    → lanes_after n front ds ≡ Ok out → length out ≡ length front + length ds
-after_many n front [] out e =
-    let same : front ≡ out = cc in omega (arith, ap (λ (l : List (List Command)). length l) same)
-after_many n front (d ∷ ds) out e =
-    let r = in_turn (lane_in n (length front) d) (λ lane. lanes_after n (front ++ lane ∷ []) ds) out e in
-    omega (arith, after_many n (front ++ r.0 ∷ []) ds out r.1.1, length-append front (r.0 ∷ []))
-
 some_in : (ds : List Data) (out : List (List Command)) → lanes_in ds ≡ Ok out → 1 ≤ length out
 some_in [] out e = absurd (cc)
-some_in (d ∷ ds) out e = omega (arith, after_many (length (d ∷ ds)) [] (d ∷ ds) out e)
+some_in (d ∷ ds) out e = omega (arith, lanes_long (length (d ∷ ds)) [] (d ∷ ds) out e)
 
 some_read : (d : Data) (out : List (List Command)) → trace_in d ≡ Ok out → 1 ≤ length out
 unfolding trace_in

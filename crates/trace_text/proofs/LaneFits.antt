@@ -1,7 +1,8 @@
 -- The commands of a lane that was read are what a lane needs.
 use Rattle.std.proofs.Common.{◌≡◌, ℕ, List, [], ◌∷◌, ◌++◌, length, refl, true, false, Bool, append_assoc, append-nil}
-use Rattle.std.specs.Prelude.{Option, Some, None, IfSome, Ok, Err, if◌then◌else◌, ◌&&◌}
+use Rattle.std.specs.Prelude.{Option, Some, None, IfSome, Ok, Err, if◌then◌else◌}
 use Rattle.std.specs.Option.{option_map_or}
+use Rattle.std.proofs.lemmas.Bool.{and_parts}
 use Rattle.serde_json.specs.Data.{Data}
 use Rattle.pool_law.specs.declared.command.Command.{Command}
 use Rattle.pool_law.specs.declared.command.Command.TheVariants as commands
@@ -24,17 +25,13 @@ fits shape earlier (commands.Recv fresh lane) named follows = rw (named, follows
 fits shape earlier (commands.Compose fresh names) named follows = named
 fits shape earlier _ named follows = refl
 
-split_true : (a b : Bool) → (a && b) ≡ true → (a ≡ true) × (b ≡ true)
-split_true true b h = (refl, h)
-split_true false b h = cc
-
 -- one more command behind those that fit
 fit_more : (shape : Shape) (earlier cs : List Command) (c : Command) → all_fit shape earlier cs ≡ true
     → fits_after shape (earlier ++ cs) c ≡ true → all_fit shape earlier (cs ++ c ∷ []) ≡ true
 fit_more shape earlier [] c all last =
     let here : fits_after shape earlier c ≡ true = rw append-nil at last in rw here refl
 fit_more shape earlier (x ∷ cs) c all last =
-    let (first, rest) = split_true (fits_after shape earlier x) (all_fit shape (earlier ++ x ∷ []) cs) all in
+    let (first, rest) = and_parts (fits_after shape earlier x) (all_fit shape (earlier ++ x ∷ []) cs) all in
     let next : fits_after shape ((earlier ++ x ∷ []) ++ cs) c ≡ true = rw append_assoc last in
     rw (first, fit_more shape (earlier ++ x ∷ []) cs c rest next) refl
 

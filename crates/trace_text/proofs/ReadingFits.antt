@@ -35,7 +35,7 @@ lanes_fit shape front (d ∷ ds) lanes fit is =
     ] refl is
 
 -- as many lanes as values
-lanes_long : (count : ℕ) (front : List (List Command)) (ds : List Data) (lanes : List (List Command))
+pub lanes_long : (count : ℕ) (front : List (List Command)) (ds : List Data) (lanes : List (List Command))
     → lanes_after count front ds ≡ Ok lanes → length lanes ≡ length front + length ds
 lanes_long count front [] lanes is = let same : front ≡ lanes = cc in rw same (omega arith)
 lanes_long count front (d ∷ ds) lanes is =

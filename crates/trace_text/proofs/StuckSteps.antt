@@ -1,5 +1,5 @@
 -- How the lanes of a trace go on.
-use Rattle.std.proofs.Common.{ℕ, ◌+◌, ◌-◌, ◌<◌, ◌≤◌, ◌≡◌, suc, List, [], ◌∷◌, ◌++◌, refl, ap, length, take, drop, get_or, arith, ◌∙◌, sym, min, slice_index, Some, true, false, Bool, drop-cons, add-one, append_assoc, length-append, Vec, Global}
+use Rattle.std.proofs.Common.{ℕ, ◌+◌, ◌-◌, ◌<◌, ◌≤◌, ◌≡◌, zero, suc, List, [], ◌∷◌, ◌++◌, refl, ap, length, take, drop, get_or, arith, ◌∙◌, sym, min, slice_index, Some, true, false, Bool, drop-cons, add-one, append_assoc, length-append, Vec, Global}
 use Rattle.std.specs.Prelude.{if◌then◌else◌, nat_lt}
 use Rattle.std.specs.List.{sum_by}
 use Rattle.std.proofs.lemmas.List.{get_or_push, get_or_append_left, take_min}
@@ -7,7 +7,7 @@ use Rattle.std.proofs.lemmas.List.Sums.{sum_by_more}
 use Rattle.std.proofs.lemmas.List.Recursion.{is_sum_by}
 use Rattle.std.proofs.lemmas.Option.{slice_get-get_or}
 use Rattle.pool_law.specs.declared.command.Command.{Command}
-use Rattle.pool_law.specs.Stuck.{how_many, moved, moves, may_pass, next_of, first_waiting}
+use Rattle.pool_law.specs.Stuck.{command_count, how_many, moved, moves, may_pass, next_of, first_waiting}
 use Rattle.pool_law.specs.Logs.{of_lane}
 use Rattle.trace_text.specs.declared.counts.Side.{Side}
 use Rattle.trace_text.specs.Counts.{AreCounts, AreRows, AreTables, meets}
@@ -27,6 +27,14 @@ pub count_now : (test : Command → Bool) (cs : List Command) (i total : ℕ) (c
     → c ≡ get_or cs i c → total ≡ how_many test (take i cs)
     → total + (if test c then 1 else 0) ≡ how_many test (take (i + 1) cs)
 count_now test cs i total c h at e = sym (how_many_step test cs i c h ∙ rw (sym at, sym e) refl)
+
+-- a lane has no more commands than all lanes
+pub short_lane : (lanes : List (List Command)) (i : ℕ) (d : List Command) → i < length lanes
+    → length (get_or lanes i d) ≤ command_count lanes
+short_lane [] i d h = absurd (omega (arith, h))
+short_lane (cs ∷ rest) zero d h = omega arith
+short_lane (cs ∷ rest) (suc i) d h =
+    let short = short_lane rest i d (omega (arith, h)) in omega (arith, short)
 
 -- one more value stands behind those of which something is known
 pub each_push : {A : Type 0} (P : ℕ → A → Type 0) (xs : List A) (y : A) (i : ℕ) (d : A) → length xs ≡ i

@@ -1,8 +1,8 @@
 //! The limits of a trace.
-ghost use Rattle.std.specs.Prelude.{◌≡◌, ◌+◌, ◌-◌, ◌<◌, ◌≤◌, ◌^◌, IfOk, min};
+ghost use Rattle.std.specs.Prelude.{◌≡◌, ◌+◌, ◌-◌, ◌<◌, ◌≤◌, ◌^◌, IfOk, length, min};
 ghost use Rattle.std.specs.List.{sum_by};
 ghost use Rattle.pool_law.specs.Stuck.{command_count};
-ghost use Rattle.pool_law.specs.Traces.{bytes_asked_by, bytes_asked, command_limit};
+ghost use Rattle.pool_law.specs.Traces.{bytes_asked_by, bytes_asked, command_limit, lane_limit};
 ghost use Rattle.trace_text.specs.Reading.{GivesLanes, limited};
 
 use crate::{Limit, TraceNo};
@@ -21,6 +21,7 @@ pub const BYTE_LIMIT: u64 = 67_108_864;
 #[tactic(auto, unfolding(crate::specs::Reading::limited))]
 pub fn limited(trace: Trace) -> Result<Trace, TraceNo>
     ensures trace { GivesLanes result (limited trace.lanes) }
+    ensures lanes { IfOk result (λ trace. length trace.lanes ≤ lane_limit) }
     ensures commands { IfOk result (λ trace. command_count trace.lanes ≤ command_limit) }
 {
     let lanes = trace.lanes.items();

@@ -54,7 +54,8 @@ fn accepted(alloc: Global, lanes: &Value) -> Result<Trace, TraceNo>
 /// The trace, where no lane gets stuck.
 #[tactic(auto, unfolding(crate::specs::Reading::unstuck))]
 fn unstuck(alloc: Global, trace: Trace) -> Result<Trace, TraceNo>
-    requires { command_count trace.lanes ≤ command_limit }
+    requires lanes { length trace.lanes ≤ lane_limit }
+    requires commands { command_count trace.lanes ≤ command_limit }
     ensures { GivesLanes result (unstuck trace.lanes) }
 {
     match waiting_place(alloc, trace.lanes.items()) {

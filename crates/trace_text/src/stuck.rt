@@ -3,7 +3,7 @@ ghost use Rattle.std.specs.Prelude.{◌≡◌, Some, ◌+◌, ◌<◌, ◌≤◌
 ghost use Rattle.pool_law.specs.Stuck.{command_count, first_waiting, how_many, may_pass, moved, next_of, passed, resting, stuck_at};
 ghost use Rattle.trace_text.specs.declared.counts.Side.TheVariants.{Receives, Sends};
 ghost use Rattle.trace_text.specs.Counts.{AreTables, meets};
-ghost use Rattle.pool_law.specs.Traces.{command_limit};
+ghost use Rattle.pool_law.specs.Traces.{command_limit, lane_limit};
 
 use crate::counts::{Side, tables};
 use crate::limits::command_total;
@@ -12,26 +12,27 @@ use std::alloc::{AllocError, Global};
 
 /// The lane and the line at which a trace is stuck.
 pub fn waiting_place(alloc: Global, lanes: &[CommandList]) -> Result<Option<(u32, u32)>, AllocError>
-    requires { command_count lanes.now ≤ command_limit }
+    requires few_lanes { length lanes.now ≤ lane_limit }
+    requires few { command_count lanes.now ≤ command_limit }
     ensures { IfOk result (λ place. place ≡ stuck_at lanes.now) }
 {
     let at = rest(alloc, lanes)?;
-    first_place(lanes, &at)
+    Ok(first_place(lanes, &at))
 }
 
 /// The least lane that has not passed its last command, with the line at which it waits.
-fn first_place(lanes: &[CommandList], at: &[usize]) -> Result<Option<(u32, u32)>, AllocError>
-    requires { length at.now ≡ length lanes.now }
-    ensures { IfOk result (λ place. place ≡ first_waiting 0 lanes.now at.now) }
+fn first_place(lanes: &[CommandList], at: &[usize]) -> Option<(u32, u32)>
+    requires size { length at.now ≡ length lanes.now }
+    requires few_lanes { length lanes.now ≤ lane_limit }
+    requires few { command_count lanes.now ≤ command_limit }
+    ensures { result ≡ first_waiting 0 lanes.now at.now }
 {
     for lane in 0..lanes.len() {
         if at[lane] < lanes[lane].items().len() {
-            let number = u32::try_from(lane).map_err(|_| AllocError)?;
-            let line = u32::try_from(at[lane]).map_err(|_| AllocError)?;
-            return Ok(Some((number, line)));
+            return Some((lane as u32, at[lane] as u32));
         }
     }
-    Ok(None)
+    None
 }
 
 /// The lines at which the lanes are when nothing moves.

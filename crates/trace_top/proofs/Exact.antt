@@ -1,7 +1,6 @@
 -- What each status says, turned round: when a run must succeed, and when it must refuse.
-use Rattle.std.proofs.Common.{◌≡◌, ℕ, ◌+◌, ◌<◌, List, ◌++◌, length, refl, ap, sym, subst, ◌∙◌, arith, Some, None, true, inl, inr, append-nil, length-append}
-use Rattle.std.specs.Prelude.{◌⊎◌, Option, Result, Ok, Err, nat_lt}
-use Rattle.std.proofs.lemmas.Bool.{cases_lt}
+use Rattle.std.proofs.Common.{◌≡◌, ℕ, ◌<◌, List, length, refl, ap, subst, ◌∙◌, arith, Some, None, true, inl, inr}
+use Rattle.std.specs.Prelude.{◌⊎◌, Result, Ok, Err, nat_lt}
 use Rattle.std.proofs.lemmas.Bool.Decides.{nat_tests}
 use Rattle.pool_law.specs.declared.run.Options.{Options}
 use Rattle.trace_text.specs.Reading.{reading_of, text_limit}
@@ -15,9 +14,9 @@ use Rattle.run_words.specs.declared.words.Origin.{Origin}
 use Rattle.run_words.specs.declared.words.Origin.TheVariants.{Source, Generated}
 use Rattle.text_ends.specs.Ends.{Rose}
 use Rattle.run_words.specs.Pools.{Accepted, reading_for}
-use Rattle.text_ends.specs.Transfer.{ReadsText}
 use Rattle.run_words.specs.Words.{options_of}
 use Rattle.text_ends.specs.Spans.{SourceSpan, SinkSpan, IsTaken}
+use Rattle.text_ends.proofs.Readings.{told_reading}
 use Rattle.trace_top.specs.Outcomes.{Explains, ExplainsOptions, ExplainsOrigin, ExplainsSource, ExplainsText, ExplainsRun, HaveOrigin, IsDone, IsRead, Completes, Refuses}
 
 both_long : (words : Options) (a b : List ℕ) → text_limit < length a → text_limit < length b
@@ -27,25 +26,6 @@ both_long words a b h k =
     let x : nat_lt text_limit (length a) ≡ true = grind (arith, nat_tests) in
     let y : nat_lt text_limit (length b) ≡ true = grind (arith, nat_tests) in
     rw (x, y) refl
-
-longer : (text rest left : List ℕ) → left ≡ text ++ rest → text_limit < length text → text_limit < length left
-longer text rest left e h =
-    rw e (let long : length (text ++ rest) ≡ length text + length rest = length-append text rest in omega arith)
-
--- of a long text no more is read than shows that it is long
-same_reading : (words : Options) (left : List ℕ) (new : Option (List ℕ)) (text : List ℕ)
-    → ReadsText (Some left) new text
-    → reading_for words text ≡ reading_for words left
-same_reading words left None text h = absurd h.bytes
-same_reading words left (Some rest) text h = elim (cases_lt text_limit (length text)) [
-  | inr short ↦
-      ap (reading_for words) (sym (h.bytes ∙ ap (λ (r : List ℕ). text ++ r) (h.whole short) ∙ append-nil text))
-  | inl long ↦ both_long words text left long (longer text rest left h.bytes long)
-]
-
-told_reading : (words : Options) (src_left : Option (List ℕ)) (left : List ℕ) (new : Option (List ℕ)) (text : List ℕ)
-    → src_left ≡ Some left → ReadsText src_left new text → reading_for words text ≡ reading_for words left
-told_reading words src_left left new text told h = same_reading words left new text (rw told at h)
 
 not_both : (r : Result Accepted TraceNo) (accepted : Accepted) (why : TraceNo) → r ≡ Ok accepted → r ≡ Err why → ⊥
 not_both r accepted why e f = cc
@@ -112,7 +92,7 @@ by_source ReadFault o options src out text accepted (bare, unwritten, rose) told
 by_source Memory o options src out text accepted e told faults here taken = inr (inr refl)
 by_source Trace o options src out text accepted (was, (reads, same, (why, (refused, is, unwritten))))
     told faults here taken =
-    let both = told_reading options.pool _ _ _ _ told reads ∙ here in
+    let both = told_reading (reading_for options.pool) (both_long options.pool) _ _ _ _ told reads ∙ here in
     absurd (not_both (reading_for options.pool was) accepted why both refused)
 by_source Words o options src out text accepted (was, (reads, same, (found, (there, e)))) told faults here taken =
     by_run Words o options found out e taken
@@ -178,20 +158,20 @@ unfolding ExplainsSource ExplainsText
 refused_source ReadFault o options src out text why (bare, unwritten, rose) told faults refused = absurd (faults rose)
 refused_source Memory o options src out text why e told faults refused = inr refl
 refused_source Trace o options src out text why (was, (reads, same, (found, (there, is, rest)))) told faults refused =
-    let here = told_reading options.pool _ _ _ _ told reads ∙ refused in
+    let here = told_reading (reading_for options.pool) (both_long options.pool) _ _ _ _ told reads ∙ refused in
     let same_why : found ≡ why = one_refusal (reading_for options.pool was) found why there here in
     inl (refl, is.refusal ∙ ap Some same_why)
 refused_source Words o options src out text why (was, (reads, same, (found, (there, rest)))) told faults refused =
-    let here = told_reading options.pool _ _ _ _ told reads ∙ refused in
+    let here = told_reading (reading_for options.pool) (both_long options.pool) _ _ _ _ told reads ∙ refused in
     absurd (not_both (reading_for options.pool was) found why there here)
 refused_source WriteFault o options src out text why (was, (reads, same, (found, (there, rest)))) told faults refused =
-    let here = told_reading options.pool _ _ _ _ told reads ∙ refused in
+    let here = told_reading (reading_for options.pool) (both_long options.pool) _ _ _ _ told reads ∙ refused in
     absurd (not_both (reading_for options.pool was) found why there here)
 refused_source Whole o options src out text why (was, (reads, same, (found, (there, rest)))) told faults refused =
-    let here = told_reading options.pool _ _ _ _ told reads ∙ refused in
+    let here = told_reading (reading_for options.pool) (both_long options.pool) _ _ _ _ told reads ∙ refused in
     absurd (not_both (reading_for options.pool was) found why there here)
 refused_source Leaks o options src out text why (was, (reads, same, (found, (there, rest)))) told faults refused =
-    let here = told_reading options.pool _ _ _ _ told reads ∙ refused in
+    let here = told_reading (reading_for options.pool) (both_long options.pool) _ _ _ _ told reads ∙ refused in
     absurd (not_both (reading_for options.pool was) found why there here)
 
 refused_options : (s : Status) (o : Outcome) (words : List (List ℕ)) (options : RunOptions) (src : SourceSpan)

@@ -1,7 +1,6 @@
 -- From what a status says of a run to what it says of the text, the source, the options and the words.
-use Rattle.std.proofs.Common.{◌≡◌, ℕ, List, None, Some, refl, sym, subst}
-use Rattle.std.specs.Prelude.{Ok, Option}
-use Rattle.std.specs.Io.KnownBytes.{Keeps}
+use Rattle.std.proofs.Common.{◌≡◌, ℕ, List, Some, sym, subst}
+use Rattle.std.specs.Prelude.{Ok}
 use Rattle.trace_top.specs.declared.answer.Status.{Status}
 use Rattle.trace_top.specs.declared.answer.Status.TheVariants.{Whole, Leaks, Words, Trace, ReadFault, WriteFault, Memory}
 use Rattle.trace_top.specs.declared.answer.Outcome.{Outcome}
@@ -12,7 +11,7 @@ use Rattle.run_words.specs.declared.words.Origin.TheVariants.{Source, Generated}
 use Rattle.text_ends.specs.Transfer.{ReadsText}
 use Rattle.run_words.specs.Pools.{Accepted, reading_for}
 use Rattle.run_words.specs.Words.{options_of}
-use Rattle.text_ends.specs.Spans.{SourceSpan, SinkSpan, IsUnread}
+use Rattle.text_ends.specs.Spans.{SourceSpan, SinkSpan}
 use Rattle.trace_top.specs.Outcomes.{Explains, ExplainsOptions, ExplainsOrigin, ExplainsGenerated, ExplainsSource, ExplainsText, ExplainsRun}
 
 pub of_run : (s : Status) (o : Outcome) (options : RunOptions) (text : List ℕ) (accepted : Accepted) (out : SinkSpan)
@@ -44,15 +43,6 @@ pub of_source : (s : Status) (o : Outcome) (options : RunOptions) (src : SourceS
     → options.origin ≡ Source → ExplainsSource s o options src out → ExplainsOptions s o options src out
 unfolding ExplainsOptions
 of_source s o options src out is e = subst (λ (origin : Origin). ExplainsOrigin origin s o options src out) (sym is) e
-
-kept_as_is : (bytes : Option (List ℕ)) → Keeps bytes bytes
-kept_as_is None = tt
-kept_as_is (Some xs) = refl
-
--- a source that wasn't called
-pub unread : (left : Option (List ℕ)) (faults : ℕ)
-    → IsUnread (record { left = left; left_then = left; faults = faults; faults_then = faults })
-unread left faults = record { left = kept_as_is left; faults = refl }
 
 -- the trace is generated
 pub of_generated : (s : Status) (o : Outcome) (options : RunOptions) (g : Generation) (src : SourceSpan)

@@ -47,7 +47,7 @@ pub fn play<R: Threads + Wait + Sync, G: Gate>(
     match ended {
         Ok(()) => {
             room.destroy_empty();
-            finish(alloc, pool, shape, lanes)
+            finish(rt, alloc, pool, shape, lanes)
         }
         Err(AllocError) => {
             let seats = given_back(&pool, lanes, room);

@@ -255,7 +255,8 @@ fn with_run<K: Sink>(
 
 // What is to be written of a run: its text, or its summary where its trace is generated.
 fn text_for(alloc: Global, options: &RunOptions, played: &Played) -> Result<Bytes, AllocError>
-    ensures { IfOk result (λ bytes. bytes ≡ text_for options.now played.now) }
+    ensures text { IfOk result (λ bytes. bytes ≡ text_for options.now played.now) }
+    ensures played { IsPlayed played.now }
 {
     let run = played.run();
     match options.origin {
@@ -266,10 +267,8 @@ fn text_for(alloc: Global, options: &RunOptions, played: &Played) -> Result<Byte
 
 // The outcome with this run.
 fn ended(status: Status, played: Played) -> Outcome
-    ensures is { result ≡ record { status = status; run = Some played; refusal = None } }
-    ensures played { IsPlayed played }
+    ensures { result ≡ record { status = status; run = Some played; refusal = None } }
 {
-    let _ = played.run();
     Outcome {
         status,
         run: Some(played),

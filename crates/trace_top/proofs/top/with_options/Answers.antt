@@ -1,4 +1,5 @@
-use Rattle.trace_top.proofs.Explain.{of_generated, of_source, unread}
+use Rattle.text_ends.proofs.Readings.{unread}
+use Rattle.trace_top.proofs.Explain.{of_generated, of_source}
 use Rattle.trace_top.proofs.top.with_options.Goals as goal
 
 pub returns-in-Source-clause-outcome : goal.returns-in-Source-clause-outcome
