@@ -1,9 +1,10 @@
 -- What one row that is written does to the live ones.
 use Rattle.std.proofs.Common.{◌≡◌, ◌≢◌, ℕ, ◌+◌, ◌<◌, ◌≤◌, ◌⊎◌, Bool, true, false, not, ◌&&◌, ◌||◌, List, [], ◌∷◌, ◌++◌, length, get_or, set, refl, sym, ap, ◌∙◌, subst, inl, inr, ⊎_elim, arith, Some, sum_by}
 use Rattle.std.specs.Prelude.{Option, nat_lt, if◌then◌else◌, slice_get}
-use Rattle.std.proofs.lemmas.Bool.{cases_eq, lt-ltb, and_right}
+use Rattle.std.proofs.lemmas.Bool.{or_left, cases_eq, lt-ltb, and_right}
 use Rattle.std.proofs.lemmas.List.Sums.{sum_by-set, sum_by_push, count_by-le-length}
 use Rattle.std.proofs.lemmas.Option.{slice_get_within, get_or_from_slice_get, same_Some}
+use Rattle.std.proofs.Math.Bool.{and-true}
 use Rattle.pool_law.proofs.ListLemmas.{slice_get-set_same, slice_get-set_other}
 use Rattle.counted_view.specs.Rows.{row_live, live_rows, owed, IsBelow, IsCounted}
 use Rattle.counted_view.specs.declared.rows.Row.{Row}
@@ -39,17 +40,9 @@ live_rows-set test rows i x y at live same =
     ap (λ (p : Option ℕ). one (test p && true)) same in
     omega arith
 
-and_true : (t : Bool) → (t && true) ≡ t
-and_true true = refl
-and_true false = refl
-
 or_right : (a b : Bool) → b ≡ true → (a || b) ≡ true
 or_right true b e = refl
 or_right false b e = e
-
-or_left : (a b : Bool) → a ≡ true → (a || b) ≡ true
-or_left true b e = refl
-or_left false b e = absurd (cc e)
 
 pub live-held : (r : Row) → 0 < r.holds → row_live r ≡ true
 live-held r lt = or_left (nat_lt 0 r.holds) _ (lt-ltb 0 r.holds lt)
@@ -85,7 +78,7 @@ pub live_rows-push : (test : Option ℕ → Bool) (rows : List Row) (r : Row) �
 live_rows-push test rows r live =
     sum_by_push (λ (q : Row). one (test q.parent && row_live q)) rows r
     ∙ ap (λ (l : Bool). live_rows test rows + one (test r.parent && l)) live
-    ∙ ap (λ (b : Bool). live_rows test rows + one (b)) (and_true (test r.parent))
+    ∙ ap (λ (b : Bool). live_rows test rows + one (b)) (and-true (test r.parent))
 
 -- a row is written whose view was live and is
 pub live_rows-kept : (test : Option ℕ → Bool) (rows : List Row) (i : ℕ) (x y : Row) → slice_get rows i ≡ Some x

@@ -1,8 +1,7 @@
 -- What a seat counts of the root, once a nest retained or released it.
-use Rattle.std.proofs.Common.{◌≡◌, ℕ, ◌+◌, ◌-◌, ◌<◌, Bool, true, false, [], ◌∷◌, ◌++◌, cond, refl, sym, ap, ◌∙◌, subst, arith, Some, None, sum_by}
+use Rattle.std.proofs.Common.{◌≡◌, ℕ, ◌+◌, ◌-◌, ◌<◌, Bool, true, false, cond, refl, sym, ap, ◌∙◌, subst, arith, Some, None}
 use Rattle.std.specs.Prelude.{Option, IsSome, option_map, unwrap_or, nat_lt, ◌==◌, if◌then◌else◌, slice_get, MatchBool}
 use Rattle.std.proofs.lemmas.Bool.{lt-ltb, le-ltb, ltb-true}
-use Rattle.std.proofs.lemmas.List.Sums.{sum_by-cons, sum_by_push}
 use Rattle.pool_law.specs.declared.id.RootId.{RootId}
 use Rattle.pool_law.specs.declared.note.RefDid.{RefDid}
 use Rattle.pool_law.specs.declared.note.RefDid.TheVariants as steps
@@ -10,11 +9,10 @@ use Rattle.pool_law.specs.Views.{in_range}
 use Rattle.pool_law.proofs.PatternLemmas.{same_root-refl}
 use Rattle.pool_table.specs.declared.roots.EndToken.{EndToken}
 use Rattle.shared_pool.specs.declared.seat.PoolSeat.{PoolSeat}
-use Rattle.pool_table.specs.declared.views.Entry.{Entry}
 use Rattle.pool_table.specs.declared.views.Entry.TheVariants.{Ref}
-use Rattle.pool_table.specs.declared.views.Part.{Part}
 use Rattle.pool_table.specs.declared.views.SeatView.{SeatView}
-use Rattle.pool_table.specs.Counts.{weigh, ref_gain, ref_loss, on_this, fetches, posts, gained_of, lost_of, with_ref, HasCount}
+use Rattle.pool_table.specs.Counts.{ref_gain, ref_loss, on_this, fetches, posts, gained_of, lost_of, with_ref, HasCount}
+use Rattle.pool_table.proofs.Counts.{weigh_ref}
 use Rattle.shared_pool.specs.SeatViews.{view_of}
 use Rattle.shared_pool.specs.RootNotes.{IsReleasedAs}
 use Rattle.counted_view.specs.declared.calls.NestNo.{NestNo}
@@ -24,16 +22,6 @@ use Rattle.counted_view.specs.NestSeats.{CountsRoot, IsRetained, IsCountedIn, Is
 use Rattle.counted_view.proofs.RowLaws.{one}
 
 -- ---- A step on the root's word.
-
-weigh_ref : (f : Entry → ℕ) (v : SeatView) (r : RootId) (d : RefDid) (moves : ℕ)
-    → weigh f (with_ref v r d moves) ≡ weigh f v + f (Ref r d)
-weigh_ref f v r d moves =
-    let part : Part → ℕ = λ p. sum_by f p.notes in
-    let own : Part = record { number = v.own.number; notes = v.own.notes ++ Ref r d ∷ [] } in
-    let new = sum_by-cons part own v.others in
-    let old = sum_by-cons part v.own v.others in
-    let more = sum_by_push f v.own.notes (Ref r d) in
-    omega (arith, new, old, more)
 
 gained_ref : (v : SeatView) (r : RootId) (d : RefDid) (moves : ℕ)
     → gained_of r (with_ref v r d moves) ≡ gained_of r v + ref_gain d

@@ -1,18 +1,15 @@
 -- How often roots are in lists, and what a desk counts behind one more and one less.
 use Rattle.std.proofs.Common.{◌≡◌, ◌+◌, List, [], ◌∷◌, ◌++◌, Bool, arith, Some}
-use Rattle.std.proofs.lemmas.List.Sums.{sum_by-append, sum_by-cons}
+use Rattle.std.proofs.lemmas.List.Sums.{sum_by-append}
 use Rattle.pool_law.specs.declared.id.RootId.{RootId}
 use Rattle.pool_law.specs.declared.id.ViewData.{ViewData}
 use Rattle.pool_table.specs.declared.views.SeatView.{SeatView}
 use Rattle.pool_table.specs.Counts.{HasCount}
 use Rattle.seat_work.specs.Changes.{once_less, once_more, one_for, times}
 use Rattle.seat_work.specs.HandOvers.{posted}
-use Rattle.seat_work.proofs.Counting.{one_self}
+use Rattle.seat_work.proofs.Counting.{times-cons, one_self}
 use Rattle.frame_cutter.specs.Standing.{CountsJust}
 use Rattle.frame_cutter.proofs.SeatLaws.{ChangesTo}
-
-pub times-cons : (q root : RootId) (roots : List RootId) → times q (root ∷ roots) ≡ one_for root q + times q roots
-times-cons q root roots = sum_by-cons (λ (r : RootId). one_for r q) root roots
 
 pub times-on : (q : RootId) (xs ys : List RootId) → times q (xs ++ ys) ≡ times q xs + times q ys
 times-on q xs ys = sum_by-append (λ (r : RootId). one_for r q) xs ys

@@ -13,6 +13,7 @@ use Rattle.seat_work.specs.Changes.{no_change, once_less, once_more}
 use Rattle.seat_work.specs.Hands.{empty_hand}
 use Rattle.seat_work.specs.Works.{HasBorn, IsLater, Proceeds, Works}
 use Rattle.seat_work.specs.declared.allocation.AllocNo.{AllocNo}
+use Rattle.seat_work.proofs.Counting.{times-cons}
 use Rattle.shared_pool.specs.declared.seat.PoolSeat.{PoolSeat}
 use Rattle.shared_pool.specs.RootNotes.{access}
 use Rattle.shared_pool.specs.Seats.{IsNoted}
@@ -21,9 +22,11 @@ use Rattle.shared_pool.proofs.Openings.{at_right}
 use Rattle.frame_core.specs.declared.frame.FrameNo.{FrameNo}
 use Rattle.frame_core.specs.declared.frame.FrameNo.TheVariants as nos
 use Rattle.frame_core.specs.Frames.{failure_of, refusal}
+use Rattle.frame_core.proofs.CountLaws.{failure-from_refusal}
 use Rattle.frame_hash.specs.declared.shop.Shop.{Shop}
 use Rattle.frame_hash.specs.declared.turns.TheConstants.{RELEASE_TURNS}
 use Rattle.frame_hash.specs.Told.{joined}
+use Rattle.frame_hash.proofs.QuietLaws.{post_nothing_on, quiet_posts}
 use Rattle.frame_slices.specs.declared.slicer.Found.{Found}
 use Rattle.frame_slices.specs.declared.slicer.Slicer.{Slicer}
 use Rattle.frame_cutter.specs.declared.desk.Desk.{Desk}
@@ -36,22 +39,14 @@ use Rattle.frame_cutter.specs.Finds.{GoThrough}
 use Rattle.frame_cutter.specs.Sends.{WriteFresh, Writes}
 use Rattle.frame_cutter.specs.Stages.{roots_at}
 use Rattle.frame_cutter.specs.Standing.{CountsJust, DeskStands, HasVerdict, IsAt, IsBetween, IsInRoot, IsMet, IsUnderway}
-use Rattle.frame_cutter.proofs.CountLaws.{less_first, times-cons}
+use Rattle.frame_cutter.proofs.CountLaws.{less_first}
 use Rattle.frame_cutter.proofs.DeskLaws.{IsPlain, filling-plain, keeps_told, letting_go-plain}
 use Rattle.frame_cutter.proofs.FreshLaws.{fresh_written, quiet_none}
 use Rattle.frame_cutter.proofs.MovedLaws.{KeepsTold, moved, moved_to}
-use Rattle.frame_cutter.proofs.NoteLaws.{quiet_posts, stays_posts}
-use Rattle.frame_cutter.proofs.SeatLaws.{HasGone, counts_then, gone_none, gone_on, gone_quiet, post_nothing_on, sent_less, slices_then, works_then}
+use Rattle.frame_cutter.proofs.NoteLaws.{stays_posts}
+use Rattle.frame_cutter.proofs.SeatLaws.{HasGone, counts_then, gone_none, gone_on, gone_quiet, sent_less, slices_then, works_then}
 
 -- ---- Refusals.
-
--- a refusal is the failure of all bytes
-fails-so : (failure : Option FrameNo) (why : FrameNo) → refusal failure ≡ Some why → failure ≡ Some why
-fails-so None why e = absurd (cc e)
-fails-so (Some (nos.Length number)) why e = e
-fails-so (Some nos.Frames) why e = e
-fails-so (Some nos.Stream) why e = e
-fails-so (Some (nos.Inside number)) why e = absurd (cc e)
 
 -- and no end within a frame
 not-inside : (failure : Option FrameNo) (number : ℕ) → refusal failure ≡ Some (nos.Inside number) → ⊥
@@ -272,7 +267,7 @@ module _ (shop : Shop) (d : Desk) (read : List ℕ) (st : DeskStands shop d read
       → refusal (failure_of (read ++ bytes)) ≡ Some why → HasVerdict (Refused why) e (read ++ bytes) st.handed
   refuses e bytes why same few met = (
     met-by (failure_of (read ++ bytes)) why e met,
-    fails-so (failure_of (read ++ bytes)) why met,
+    failure-from_refusal (failure_of (read ++ bytes)) why met,
     record {
       before = read;
       part = bytes;

@@ -3,6 +3,7 @@ use Rattle.std.proofs.Common.{◌≡◌, ℕ, zero, suc, ◌+◌, ◌<◌, List,
 use Rattle.std.specs.Prelude.{slice_get}
 use Rattle.std.specs.List.{list_all}
 use Rattle.std.proofs.lemmas.Option.{slice_get_within}
+use Rattle.std.proofs.lemmas.Bool.{and_parts}
 use Rattle.pool_law.specs.declared.id.RootId.{RootId}
 use Rattle.pool_law.specs.declared.note.Did.{Did}
 use Rattle.pool_law.specs.declared.note.Noted.{Noted}
@@ -15,7 +16,6 @@ use Rattle.seat_work.specs.Growth.{is_quiet, is_quiet_entry}
 use Rattle.shared_pool.specs.RootNotes.{access}
 use Rattle.shared_pool.proofs.Openings.{at_left, at_right}
 use Rattle.frame_hash.proofs.ListParts.{either_part}
-use Rattle.frame_hash.proofs.QuietLaws.{both-true}
 use Rattle.frame_cutter.specs.Sends.{IsFresh, WriteFresh, WritesAt}
 
 -- no note writes
@@ -31,11 +31,11 @@ same_note o p m n a b e = cc e
 pub quiet_none : (es : List Entry) → list_all is_quiet_entry es ≡ true → WriteNone es
 quiet_none [] e at noted offset bytes w = absurd (cc (w.stands))
 quiet_none (At o n own ∷ es) e zero noted offset bytes w =
-    let both = both-true (is_quiet own.did) (list_all is_quiet_entry es) e in
+    let both = and_parts (is_quiet own.did) (list_all is_quiet_entry es) e in
     let same = same_note o (Object.Root w.place) n w.number own noted w.stands in
     loud own.did offset bytes both.0 (ap (λ (x : Noted). x.did) same ∙ w.did)
 quiet_none (At o n own ∷ es) e (suc at) noted offset bytes w =
-    let both = both-true (is_quiet own.did) (list_all is_quiet_entry es) e in
+    let both = and_parts (is_quiet own.did) (list_all is_quiet_entry es) e in
     quiet_none es both.1 at noted offset bytes
     (record { place = w.place; number = w.number; stands = w.stands; did = w.did })
 quiet_none (Ref root did ∷ es) e zero noted offset bytes w = absurd (cc (w.stands))

@@ -1,7 +1,6 @@
 -- What a seat has noted of blocks and slices, once more is noted.
-use Rattle.std.proofs.Common.{◌≡◌, ℕ, zero, suc, ◌+◌, List, [], ◌∷◌, ◌++◌, Bool, true, length, map, refl, sym, ap, subst, ◌∙◌, arith, Option, Some, inl, inr, ⊎_elim, length-append}
+use Rattle.std.proofs.Common.{◌≡◌, ℕ, zero, suc, ◌+◌, List, [], ◌∷◌, ◌++◌, Bool, length, map, refl, sym, ap, subst, ◌∙◌, arith, Option, Some, inl, inr, ⊎_elim, length-append}
 use Rattle.std.specs.Prelude.{◌⊎◌, if◌then◌else◌, slice_get}
-use Rattle.std.specs.List.{list_all}
 use Rattle.std.proofs.lemmas.List.{map-append, take-append-le}
 use Rattle.std.proofs.lemmas.Option.{slice_get_within}
 use Rattle.std.proofs.Math.Seq.{take-append_seam}
@@ -12,19 +11,17 @@ use Rattle.pool_law.specs.declared.note.Did.{Did}
 use Rattle.pool_law.specs.declared.note.Noted.{Noted}
 use Rattle.pool_law.specs.declared.note.Object.{Object}
 use Rattle.pool_law.specs.declared.note.Object.TheVariants.{Mail}
-use Rattle.pool_law.specs.Kinds.{Passing, Stays, passing}
-use Rattle.pool_law.specs.Mails.{gone, posted}
+use Rattle.pool_law.specs.Kinds.{Stays, passing}
+use Rattle.pool_law.specs.Mails.{posted}
 use Rattle.pool_law.specs.Naming.{noted_by}
-use Rattle.pool_law.specs.Same.{same_object}
 use Rattle.pool_law.proofs.PatternLemmas.{same_object-refl}
 use Rattle.pool_table.specs.declared.views.Entry.{Entry}
-use Rattle.pool_table.specs.declared.views.Entry.TheVariants.{At, Ref, Busy}
+use Rattle.pool_table.specs.declared.views.Entry.TheVariants.{At}
 use Rattle.run_order.proofs.MailLists.{posted-append}
-use Rattle.seat_work.specs.Growth.{is_quiet, is_quiet_entry}
 use Rattle.shared_pool.specs.Closing.{note_of}
 use Rattle.shared_pool.specs.Notes.{plain}
 use Rattle.shared_pool.proofs.Openings.{at_left, at_right}
-use Rattle.frame_hash.proofs.QuietLaws.{both-true, none-either, quiet-stays}
+use Rattle.frame_hash.proofs.QuietLaws.{stays-unposted}
 use Rattle.frame_cutter.specs.Sends.{AreSlices, HasSent, IsSlice, SendsSlice, Writes, posts_in}
 
 -- ---- Posts.
@@ -41,26 +38,11 @@ posts-on sender receiver es more =
     (ap (posted mail) (map-append note_of es more) ∙ posted-append mail (map note_of es) (map note_of more))
     ∙ length-append (posted mail (map note_of es)) (posted mail (map note_of more))
 
-stays-nothing : (mail object : Object) (number : ℕ) (d : Did) → passing d ≡ Stays
-    → (if same_object mail object then gone number (passing d) else []) ≡ []
-stays-nothing mail object number d e =
-    ap (λ (p : Passing). if same_object mail object then gone number p else []) e
-    ∙ none-either (same_object mail object)
-
-pub quiet_posts : (es : List Entry) → list_all is_quiet_entry es ≡ true → PostNothing es
-quiet_posts [] e sender receiver = refl
-quiet_posts (At object number noted ∷ es) e sender receiver =
-    let both = both-true (is_quiet noted.did) (list_all is_quiet_entry es) e in
-    (λ i. stays-nothing (Mail sender receiver) object number noted.did (quiet-stays noted.did both.0) i
-    ++ quiet_posts es both.1 sender receiver i)
-quiet_posts (Ref root did ∷ es) e sender receiver = quiet_posts es e sender receiver
-quiet_posts (Busy held ∷ es) e sender receiver = quiet_posts es e sender receiver
-
 -- a note where nothing passes posts nothing
 pub stays_posts : (object : Object) (number : ℕ) (noted : Noted) → passing noted.did ≡ Stays
     → PostNothing (At object number noted ∷ [])
 stays_posts object number noted e sender receiver =
-    ap (λ ps. ps ++ []) (stays-nothing (Mail sender receiver) object number noted.did e)
+    ap (λ ps. ps ++ []) (stays-unposted (Mail sender receiver) object number noted.did e)
 
 -- ---- What stands in notes stands there still.
 

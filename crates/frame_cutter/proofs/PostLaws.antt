@@ -5,6 +5,7 @@ use Rattle.std.specs.Global.{Vec}
 use Rattle.std.proofs.Math.Seq.{drop-cons}
 use Rattle.std.proofs.lemmas.List.{take_more}
 use Rattle.std.proofs.lemmas.Option.{get_or_from_slice_get, slice_get_read, slice_get_within}
+use Rattle.std.proofs.lemmas.Bool.{and_right}
 use Rattle.pool_law.specs.declared.id.Parcel.{Parcel}
 use Rattle.pool_law.specs.declared.id.RootId.{RootId}
 use Rattle.pool_law.specs.declared.id.ViewData.{ViewData}
@@ -56,16 +57,12 @@ no-post : (t : Bool) (n : ℕ) (p : Parcel) → t ≡ false
 no-post true n p e = absurd (cc e)
 no-post false n p e = refl
 
-and-false : (a b : Bool) → b ≡ false → (a && b) ≡ false
-and-false true b e = e
-and-false false b e = refl
-
 -- it goes to no other lane
 pub letter_elsewhere : (sender receiver other number : ℕ) (view : ViewData) → other ≢ receiver
     → posts_in sender other (letter_to sender receiver number view ∷ []) ≡ 0
 letter_elsewhere sender receiver other number view ne =
     no-post (eqb sender sender && eqb other receiver) number (record { view = Some view })
-    (and-false (eqb sender sender) (eqb other receiver) (ne_eqb other receiver ne))
+    (and_right (eqb sender sender) (eqb other receiver) (ne_eqb other receiver ne))
 
 -- ---- A slice at a place of a vector.
 

@@ -1,26 +1,22 @@
 -- The seat of a cutter further on, behind steps that posted nothing.
-use Rattle.std.proofs.Common.{◌≡◌, ℕ, ◌+◌, ◌≤◌, List, [], ◌++◌, length, map, refl, sym, ap, subst, ◌∙◌, arith, Option, Some, append_assoc, append-nil}
+use Rattle.std.proofs.Common.{◌≡◌, ℕ, ◌+◌, ◌≤◌, List, [], ◌++◌, length, refl, sym, ap, subst, ◌∙◌, arith, Option, Some, append_assoc, append-nil}
 use Rattle.pool_law.specs.declared.id.RootId.{RootId}
 use Rattle.pool_law.specs.declared.id.ViewData.{ViewData}
-use Rattle.pool_law.specs.declared.note.Object.TheVariants.{Mail}
-use Rattle.pool_law.specs.Mails.{posted}
 use Rattle.pool_table.specs.declared.views.Entry.{Entry}
 use Rattle.pool_table.specs.Letters.{sent_on}
-use Rattle.run_order.proofs.MailLists.{posted-append}
 use Rattle.std.specs.Prelude.{unwrap_or}
-use Rattle.std.proofs.lemmas.List.{map-append}
 use Rattle.seat_work.specs.Changes.{Change, times}
 use Rattle.seat_work.specs.Hands.{empty_hand}
 use Rattle.seat_work.specs.Works.{IsLater, Proceeds, Works}
 use Rattle.seat_work.proofs.Proceeding.{works_after}
 use Rattle.shared_pool.specs.declared.pool.SharedPool.{SharedPool}
 use Rattle.shared_pool.specs.declared.seat.PoolSeat.{PoolSeat}
-use Rattle.shared_pool.specs.Closing.{note_of}
 use Rattle.shared_pool.specs.SeatViews.{view_of}
 use Rattle.frame_cutter.specs.Sends.{AreSlices, HasSent, WriteFresh, Writes}
 use Rattle.frame_cutter.specs.Standing.{CountsJust}
 use Rattle.frame_cutter.proofs.FreshLaws.{fresh_kept, quiet_none}
-use Rattle.frame_cutter.proofs.NoteLaws.{PostNothing, quiet_posts, sent_kept, slices_kept, writes_kept}
+use Rattle.frame_cutter.proofs.NoteLaws.{PostNothing, sent_kept, slices_kept, writes_kept}
+use Rattle.frame_hash.proofs.QuietLaws.{post_nothing_on, quiet_posts}
 
 -- the seat of the lane behind all workers' posted nothing more, writes to new roots alone, counts just
 -- these roots, and has so many turns and moves left
@@ -121,12 +117,6 @@ module _ (pool : SharedPool) (workers turns moves spent moved left rest : ℕ) (
   }
 
 -- ---- Notes behind others.
-
-pub post_nothing_on : (es more : List Entry) → PostNothing es → PostNothing more → PostNothing (es ++ more)
-post_nothing_on es more x y sender receiver =
-    let mail = Mail sender receiver in
-    ap (posted mail) (map-append note_of es more) ∙ posted-append mail (map note_of es) (map note_of more)
-    ∙ (λ i. x sender receiver i ++ y sender receiver i)
 
 -- ---- Steps behind others.
 

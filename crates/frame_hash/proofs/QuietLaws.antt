@@ -1,8 +1,9 @@
 -- Notes that fetch or post no parcel, and write to no root.
 use Rattle.std.proofs.Common.{◌≡◌, ℕ, zero, suc, ◌+◌, List, [], ◌∷◌, ◌++◌, Bool, true, false, length, map, refl, sym, ap, ◌∙◌, Some, ⊎_elim, length-append}
-use Rattle.std.specs.Prelude.{◌&&◌, if◌then◌else◌, slice_get}
+use Rattle.std.specs.Prelude.{if◌then◌else◌, slice_get}
 use Rattle.std.specs.List.{list_all}
 use Rattle.std.proofs.lemmas.List.{map-append}
+use Rattle.std.proofs.lemmas.Bool.{and_parts}
 use Rattle.pool_law.specs.declared.id.Parcel.{Parcel}
 use Rattle.pool_law.specs.declared.note.Did.{Did}
 use Rattle.pool_law.specs.declared.note.Did.TheVariants.{Take, Full, Give, Hit, Miss, Kept, Back, Trim, Close, Shed, Handle, NoHandle, Home, Post, Fetch, Birth, Set, Get, Touch, Room, Extend, Grow, End}
@@ -94,20 +95,16 @@ stays-nothing mail object number d e =
     ∙ none-either (same_object mail object)
 
 -- and posts nothing
-stays-unposted : (mail object : Object) (number : ℕ) (d : Did) → passing d ≡ Stays
+pub stays-unposted : (mail object : Object) (number : ℕ) (d : Did) → passing d ≡ Stays
     → (if same_object mail object then gone number (passing d) else []) ≡ []
 stays-unposted mail object number d e =
     ap (λ (p : Passing). if same_object mail object then gone number p else []) e
     ∙ none-either (same_object mail object)
 
-pub both-true : (a b : Bool) → (a && b) ≡ true → (a ≡ true) × (b ≡ true)
-both-true true b e = (refl, e)
-both-true false b e = absurd (cc e)
-
 pub quiet_fetches : (es : List Entry) → list_all is_quiet_entry es ≡ true → FetchNothing es
 quiet_fetches [] e sender receiver = refl
 quiet_fetches (At object number noted ∷ es) e sender receiver =
-    let both = both-true (is_quiet noted.did) (list_all is_quiet_entry es) e in
+    let both = and_parts (is_quiet noted.did) (list_all is_quiet_entry es) e in
     (λ i. stays-nothing (Mail sender receiver) object number noted.did (quiet-stays noted.did both.0) i
     ++ quiet_fetches es both.1 sender receiver i)
 quiet_fetches (Ref root did ∷ es) e sender receiver = quiet_fetches es e sender receiver
@@ -116,7 +113,7 @@ quiet_fetches (Busy held ∷ es) e sender receiver = quiet_fetches es e sender r
 pub quiet_posts : (es : List Entry) → list_all is_quiet_entry es ≡ true → PostNothing es
 quiet_posts [] e sender receiver = refl
 quiet_posts (At object number noted ∷ es) e sender receiver =
-    let both = both-true (is_quiet noted.did) (list_all is_quiet_entry es) e in
+    let both = and_parts (is_quiet noted.did) (list_all is_quiet_entry es) e in
     (λ i. stays-unposted (Mail sender receiver) object number noted.did (quiet-stays noted.did both.0) i
     ++ quiet_posts es both.1 sender receiver i)
 quiet_posts (Ref root did ∷ es) e sender receiver = quiet_posts es e sender receiver
@@ -135,11 +132,11 @@ loud d offset bytes quiet e = let no : is_quiet d ≡ false = ap is_quiet e in c
 pub quiet_writes : (es : List Entry) → list_all is_quiet_entry es ≡ true → WriteNothing es
 quiet_writes [] e at number offset root bytes stands = absurd (cc stands)
 quiet_writes (At object k noted ∷ es) e zero number offset root bytes stands =
-    let both = both-true (is_quiet noted.did) (list_all is_quiet_entry es) e in
+    let both = and_parts (is_quiet noted.did) (list_all is_quiet_entry es) e in
     loud noted.did offset bytes both.0
     (at-first object (Root root.place) k number noted.did (Set offset bytes) stands)
 quiet_writes (At object k noted ∷ es) e (suc at) number offset root bytes stands =
-    let both = both-true (is_quiet noted.did) (list_all is_quiet_entry es) e in
+    let both = and_parts (is_quiet noted.did) (list_all is_quiet_entry es) e in
     quiet_writes es both.1 at number offset root bytes stands
 quiet_writes (Ref r did ∷ es) e zero number offset root bytes stands = absurd (cc stands)
 quiet_writes (Ref r did ∷ es) e (suc at) number offset root bytes stands =

@@ -5,7 +5,6 @@ use Rattle.std.specs.declared.cmp.Ordering.{Ordering}
 use Rattle.std.specs.declared.cmp.Ordering.TheVariants.{Less, Equal, Greater}
 use Rattle.std.specs.Ordering.{nat_cmp, ordering_then, is_eq}
 use Rattle.std.specs.BTreeMap.{is_at}
-use Rattle.std.proofs.lemmas.Bool.Decides.{nat_tests}
 use Rattle.pool_law.specs.declared.id.RootId.{RootId}
 use Rattle.pool_law.specs.Same.{same_root}
 use Rattle.pool_law.proofs.SameLemmas.{same_root-is}
@@ -13,12 +12,10 @@ use Rattle.pool_law.specs.declared.note.Note.{Note}
 use Rattle.pool_law.specs.Counts.{count_from, count_step, note_gains, note_loses}
 use Rattle.pool_law.specs.Readers.{ToldNotes}
 use Rattle.object_steps.specs.declared.told.PlaceTold.{PlaceTold}
+use Rattle.object_steps.proofs.BinLemmas.{is_eq-nat}
 use Rattle.lane_reader.specs.Reading.{entry, untold, entries_in}
 use Rattle.lane_reader.specs.Counting.{key_cmp, key_of, count_after}
 use Rattle.lane_reader.proofs.ReadingLemmas.{entries-from, take-next}
-
-pub is_eq-nat : (a b : ℕ) → is_eq (nat_cmp a b) ≡ (a == b)
-is_eq-nat a b = grind (arith, nat_tests)
 
 is_eq-then : (p q r : Ordering) →
     is_eq (ordering_then (ordering_then p q) r) ≡ (is_eq p && (is_eq q && is_eq r))

@@ -1,4 +1,3 @@
-pub mod BytesLemmas
 pub mod ReadingLemmas
 pub mod RegionLemmas
 pub mod DrainLemmas

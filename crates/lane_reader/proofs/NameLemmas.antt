@@ -6,7 +6,7 @@ use Rattle.std.specs.Ordering.{nat_cmp}
 use Rattle.std.specs.BTreeMap.{is_at}
 use Rattle.lane_reader.specs.declared.bound.Bound.{Bound}
 use Rattle.lane_reader.specs.Viewing.{bound_of}
-use Rattle.lane_reader.proofs.CountLemmas.{is_eq-nat}
+use Rattle.object_steps.proofs.BinLemmas.{is_eq-nat}
 
 pub lookup-without : (n name : ℕ) (bs : Names) →
     lookup n (without name bs) ≡ (if name == n then None else lookup n bs)

@@ -1,28 +1,14 @@
 -- Replies that are the same.
-use Rattle.std.proofs.Common.{◌≡◌, ℕ, List, [], ◌∷◌, Bool, true, false, refl, ap, eqb-true, eq-eqb}
-use Rattle.std.specs.Prelude.{◌==◌, ◌&&◌, if◌then◌else◌, Option, Some, None}
-use Rattle.pool_law.specs.declared.id.Place.{Place}
+use Rattle.std.proofs.Common.{◌≡◌, ℕ, List, [], ◌∷◌, Bool, true, false, refl, ap, eqb-true}
+use Rattle.std.specs.Prelude.{◌==◌, if◌then◌else◌, Option, Some, None}
 use Rattle.pool_law.specs.declared.run.Reply.{Reply}
 use Rattle.pool_law.specs.Same.{same_place, same_bytes}
 use Rattle.pool_law.specs.LaneStates.{LaneState}
 use Rattle.pool_law.proofs.SameLemmas.{and-first, and-second, same_place-is}
+use Rattle.pool_law.proofs.CompositeLemmas.{same_bytes-refl}
+use Rattle.pool_law.proofs.PatternLemmas.{both_true, same_number, same_place-refl}
 use Rattle.lane_reader.specs.Replying.{same_reply}
 use Rattle.lane_reader.specs.Running.{where_answered}
-
-and-both : (a b : Bool) → a ≡ true → b ≡ true → (a && b) ≡ true
-and-both a b e f = rw (e, f) refl
-
-same-number : (n : ℕ) → (n == n) ≡ true
-same-number n = eq-eqb n n refl
-
-same_place-self : (a : Place) → same_place a a ≡ true
-same_place-self a =
-    and-both _ _ (same-number a.arena)
-    (and-both _ _ (same-number a.chunk) (and-both _ _ (same-number a.offset) (same-number a.len)))
-
-same_bytes-self : (xs : List ℕ) → same_bytes xs xs ≡ true
-same_bytes-self [] = refl
-same_bytes-self (x ∷ xs) = and-both _ _ (same-number x) (same_bytes-self xs)
 
 same_bytes-equal : (xs ys : List ℕ) → same_bytes xs ys ≡ true → xs ≡ ys
 same_bytes-equal [] [] e = refl
@@ -36,9 +22,9 @@ same_bytes-equal (x ∷ xs) (y ∷ ys) e =
 -- a reply is the same as itself
 pub same_reply-self : (a : Reply) → same_reply a a ≡ true
 same_reply-self Reply.Ok = refl
-same_reply-self (Reply.OkPlace size place) = and-both _ _ (same-number size) (same_place-self place)
-same_reply-self (Reply.OkBytes bytes) = same_bytes-self bytes
-same_reply-self (Reply.OkNumber n) = same-number n
+same_reply-self (Reply.OkPlace size place) = both_true _ _ (same_number size) (same_place-refl place)
+same_reply-self (Reply.OkBytes bytes) = same_bytes-refl bytes
+same_reply-self (Reply.OkNumber n) = same_number n
 same_reply-self Reply.Kept = refl
 same_reply-self Reply.Freed = refl
 same_reply-self Reply.Unbound = refl
@@ -48,7 +34,7 @@ same_reply-self Reply.Range = refl
 same_reply-self Reply.TooLarge = refl
 same_reply-self Reply.Handles = refl
 same_reply-self Reply.Full = refl
-same_reply-self (Reply.Busy n) = same-number n
+same_reply-self (Reply.Busy n) = same_number n
 same_reply-self Reply.Nothing = refl
 same_reply-self Reply.Composite = refl
 same_reply-self Reply.Plain = refl

@@ -11,8 +11,8 @@ ghost use Rattle.pool_law.specs.Names.{has_range, has_to_read, has_room, reader_
 
 use crate::composite::{Composite, hold};
 use crate::log::{At, Log};
-use crate::same::same_bytes;
 use crate::view::View;
+use object_steps::same_bytes;
 
 /// What a name of a lane is bound to.
 #[derive(Drop)]

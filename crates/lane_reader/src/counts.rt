@@ -14,7 +14,7 @@ use std::collections::BTreeMap;
 
 /// The counts of a lane, by place, generation and capacity of a root.
 #[derive(Drop)]
-pub(crate) struct Counts {
+pub struct Counts {
     map: BTreeMap<(u32, u32, u32), u64>,
 }
 
@@ -93,7 +93,7 @@ impl Log<'_> {
 
 impl Counts {
     /// No root is counted.
-    pub(crate) fn new(alloc: Global) -> Counts
+    pub fn new(alloc: Global) -> Counts
         ensures { (root : RootId) → count_in result root ≡ 0 }
     {
         Counts {
@@ -102,7 +102,7 @@ impl Counts {
     }
 
     /// How often a root is counted.
-    pub(crate) fn of(&self, root: &RootId) -> u64
+    pub fn of(&self, root: &RootId) -> u64
         ensures { result ≡ count_in self.now root.now }
     {
         let key = (root.place, root.generation, root.capacity);
@@ -119,8 +119,8 @@ impl Counts {
         Ok(())
     }
 
-    /// The counts after a note.
-    pub(crate) fn pass(&mut self, note: &Note) -> Result<(), AllocError>
+    /// The counts after a note, where none is the last that 64 bits hold. A refusal is want of memory.
+    pub fn pass(&mut self, note: &Note) -> Result<(), AllocError>
         requires { (root : RootId) → count_in self.old root + 1 < 2 ^ 64 }
         ensures { (other : RootId) → OnOk result (count_in self.new other
             ≡ count_after other (count_in self.old other) note.now) }

@@ -2,7 +2,8 @@
 //! A lane's log, read by the law.
 //!
 //! Each function reads some of a log's notes from a place on, as the reading of the law that has its
-//! name: it gives what they say and the place behind them, or nothing where the notes are others.
+//! name: it gives what they say and the place behind them, or nothing where the notes are others. A
+//! checker of whole runs counts the roots of a lane by `Counts` too.
 
 mod alloc_row;
 mod bound;
@@ -25,7 +26,6 @@ mod pieces;
 mod refusing;
 mod replies;
 mod runs;
-mod same;
 mod setting;
 mod stopped;
 mod turns;
@@ -33,5 +33,6 @@ mod view;
 mod view_rows;
 mod whole;
 
+pub use counts::Counts;
 pub use log::Log;
 pub use whole::first_unlike;

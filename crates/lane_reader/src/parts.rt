@@ -12,8 +12,8 @@ ghost use Rattle.lane_reader.specs.Parting.{reads_bytes, where_same, set_filled,
 ghost use Rattle.lane_reader.specs.Parting.{copy_filled};
 
 use crate::log::{At, Log};
-use crate::same::same_bytes;
 use crate::view::Range;
+use object_steps::same_bytes;
 use pool_law::{Did, RootId};
 
 impl<'a> Log<'a> {

@@ -3,7 +3,7 @@
 ghost use Rattle.std.specs.Prelude.{◌≡◌};
 ghost use Rattle.lane_reader.specs.Replying.{same_reply, reply_of, reply_that};
 
-use crate::same::same_bytes;
+use object_steps::same_bytes;
 use pool_law::{Place, Reply};
 
 /// Why a command is refused before it notes anything.

@@ -8,6 +8,7 @@ use Rattle.pool_law.specs.declared.note.Note.{Note}
 use Rattle.pool_law.specs.Logs.{Logs, of_lane}
 use Rattle.pool_law.specs.Lives.{StandsAt}
 use Rattle.pool_law.proofs.SameLemmas.{and-first, and-second}
+use Rattle.pool_law.proofs.HistoryLemmas.{slice_get-beyond}
 use Rattle.run_order.proofs.Fronts.{by-test}
 use Rattle.topo_order.proofs.Lists.{same_some, pushed, pushed_before, pushed_last}
 use Rattle.topo_order.proofs.Walks.{below-or}
@@ -20,7 +21,6 @@ use Rattle.log_order.specs.declared.graph.Graph.{Graph}
 use Rattle.log_order.specs.declared.index.Index.{Index}
 use Rattle.log_order.specs.declared.spots.Spot.{Spot}
 use Rattle.log_order.proofs.KeyLemmas.{same_key-is, same_key-refl}
-use Rattle.log_order.proofs.MoveLemmas.{no-lane}
 
 -- two notes at one place are one
 pub one-note : (logs : Logs) (s t : Spot) (n m : Note) → s ≡ t → StandsAt logs s.lane s.at n
@@ -96,8 +96,8 @@ placed-next logs spots lane low p = record {
 pub lane-low : (logs : Logs) (lane at : ℕ) (n : Note) → StandsAt logs lane at n → lane < length logs
 lane-low logs lane at n is =
     ⊎_elim (λ low. low)
-    (λ high. let none : slice_get [] at ≡ Some n = ap (λ xs. slice_get xs at) (sym (no-lane logs lane high)) ∙ is in
-    absurd (cc none))
+    (λ high. let none : slice_get [] at ≡ Some n =
+    ap (λ xs. slice_get xs at) (sym (slice_get-beyond logs lane high)) ∙ is in absurd (cc none))
     (cases_lt lane (length logs))
 
 same_stage-is : (x y : Stage) → same_stage x y ≡ true → x ≡ y

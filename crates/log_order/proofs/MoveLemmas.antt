@@ -1,8 +1,9 @@
 -- How plays follow on one another.
-use Rattle.std.proofs.Common.{⊎_elim, ◌≡◌, ◌≤◌, ℕ, zero, suc, Bool, true, false, [], ◌∷◌, length, Some, refl, get_or, sym, ap, subst, arith, ◌∙◌}
+use Rattle.std.proofs.Common.{⊎_elim, ◌≡◌, ◌≤◌, ℕ, Bool, true, false, [], length, Some, get_or, sym, ap, subst, arith, ◌∙◌}
 use Rattle.std.specs.Prelude.{◌||◌, slice_get}
 use Rattle.std.proofs.lemmas.Bool.{cases_lt}
-use Rattle.pool_law.specs.Logs.{Logs, of_lane}
+use Rattle.pool_law.specs.Logs.{Logs}
+use Rattle.pool_law.proofs.HistoryLemmas.{slice_get-beyond}
 use Rattle.log_order.specs.Playing.{steps_at, AreHeld, IsHeld, IsHeldBack, MovesOn, left_in}
 use Rattle.log_order.specs.declared.playing.Play.{Play}
 
@@ -45,18 +46,12 @@ held-stays logs old new lane next order held =
     subst (λ z. IsHeldBack logs new.next.items (steps_at logs z) lane) (sym order)
     (subst (λ z. IsHeldBack logs z (steps_at logs old.order.items) lane) (sym next) held)
 
--- behind the last lane there are no notes
-pub no-lane : (logs : Logs) (lane : ℕ) → length logs ≤ lane → of_lane logs lane ≡ []
-no-lane [] lane high = refl
-no-lane (log ∷ logs) zero high = absurd (omega (arith, high))
-no-lane (log ∷ logs) (suc lane) high = no-lane logs lane (omega (arith, high))
-
 -- where there is no lane no note is left
 pub all-held : (logs : Logs) (play : Play) → AreHeld logs play → (lane : ℕ) → IsHeld logs play lane
 all-held logs play held lane n at =
     ⊎_elim (λ low. held lane low n at)
     (λ high.
     let none : slice_get [] (get_or play.next.items lane 0) ≡ Some n =
-    ap (λ xs. slice_get xs (get_or play.next.items lane 0)) (sym (no-lane logs lane high)) ∙ at in
+    ap (λ xs. slice_get xs (get_or play.next.items lane 0)) (sym (slice_get-beyond logs lane high)) ∙ at in
     absurd (cc none))
     (cases_lt lane (length logs))

@@ -1,7 +1,8 @@
 -- What the program counts is what the steps are.
-use Rattle.std.proofs.Common.{◌≡◌, ℕ, ◌+◌, ◌<◌, Bool, true, false, List, [], ◌∷◌, ◌++◌, Some, refl, sym, ap, arith, ◌∙◌}
+use Rattle.std.proofs.Common.{◌≡◌, ℕ, ◌+◌, ◌<◌, Bool, false, List, [], ◌∷◌, ◌++◌, Some, refl, sym, ap, arith, ◌∙◌}
 use Rattle.std.specs.Prelude.{◌==◌, ◌&&◌, ◌||◌, nat_lt, nat_le, if◌then◌else◌}
 use Rattle.std.proofs.lemmas.Bool.{ne_eqb}
+use Rattle.std.proofs.Math.Bool.{and-false, and-true}
 use Rattle.pool_law.specs.declared.id.RootId.{RootId}
 use Rattle.pool_law.specs.declared.note.Object.{Object}
 use Rattle.pool_law.specs.declared.note.Did.{Did}
@@ -21,7 +22,7 @@ use Rattle.run_order.proofs.Positions.{made-alike}
 use Rattle.run_order.proofs.Tests.{gains, losses, count_fits, finds_its, note_fits}
 use Rattle.log_order.specs.Tallying.{Key, way_of, way_key, root_key, place_key, born_kind, retain_kind, release_kind, end_kind, vacated_kind, born_at_kind, vacated_at_kind, note_key, note_key_beside, one_at, counted, count_in, AreCounted, at_in, alike_in, finds_in, gained_in, lost_in, ref_fits_in, fits_in}
 use Rattle.log_order.specs.declared.tally.Tally.{Tally}
-use Rattle.log_order.proofs.KeyLemmas.{and-true, same-keys}
+use Rattle.log_order.proofs.KeyLemmas.{same-keys}
 
 -- what a note counts under a key
 abbrev pub counts : Key → Note → ℕ
@@ -71,10 +72,6 @@ retain-is root (Ref r Kept) = omega arith
 retain-is root (Ref r Ended) = omega arith
 retain-is root (Ref r Vacated) = omega arith
 retain-is root (Ref r (Look found)) = omega arith
-
-and-false : (b : Bool) → (b && false) ≡ false
-and-false true = refl
-and-false false = refl
 
 pub release-is : (root : RootId) (n : Note) → one_if (is_release root n) ≡ counts (root_key release_kind root) n
 release-is root (At object number did) = off (passing did) object (root_key release_kind root) (omega arith)

@@ -1,11 +1,29 @@
 -- What all words give, from what the first of them give.
 use Rattle.std.proofs.Common.{◌≡◌, ℕ, ◌<◌, List, [], ◌∷◌, length, refl, true, false, Bool, arith, Some, None, ap}
-use Rattle.std.specs.Prelude.{Option, if◌then◌else◌, option_map, option_and_then}
+use Rattle.std.specs.Prelude.{◌&&◌, Option, if◌then◌else◌, option_map, option_and_then}
+use Rattle.std.proofs.lemmas.Option.{none-some}
 use Rattle.option_words.specs.Options.{before, first_given, given_alone, givens_in, is_whole, with_given}
 
 -- one option in front of all others
 abbrev pub with_all : {G : Type 0} → G → Option (List G) → Option (List G)
 with_all {G} g others = option_map (λ (gs : List G). g ∷ gs) others
+
+-- what all of them ask for, from what the first of them asks for
+pub asked_first : {G A : Type 0} (asked_from : A → List G → Option A) (asked : A) (g : G) (gs : Option (List G))
+    (first : Option A)
+    → ((rest : List G) → asked_from asked (g ∷ rest) ≡ option_and_then (λ (a : A). asked_from a rest) first)
+    → option_and_then (asked_from asked) (with_all g gs)
+    ≡ option_and_then (λ (a : A). option_and_then (asked_from a) gs) first
+asked_first asked_from asked g None None step = refl
+asked_first asked_from asked g None (Some a) step = refl
+asked_first asked_from asked g (Some gs) first step = step gs
+
+-- what passed two tests
+pub kept : {X : Type 0} (a b : Bool) (m n : X) → (if a && b then Some m else None) ≡ Some n
+    → (a ≡ true) × (b ≡ true) × (m ≡ n)
+kept true true m n e = (refl, refl, cc)
+kept true false m n e = absurd (none-some n e)
+kept false b m n e = absurd (none-some n e)
 
 module _ {G : Type 0} (flag : List ℕ → Option G) (valued : List ℕ → List ℕ → Option G) where
   never : (g : G) (rest : List (List ℕ)) (x : Option (G × List (List ℕ))) → x ≡ None → x ≡ Some (g, rest) → ⊥

@@ -1,7 +1,6 @@
 -- What each status says, from what was found up to the words.
-use Rattle.std.proofs.Common.{◌≡◌, ℕ, List, [], ◌∷◌, length, map, string_bytes, refl, arith}
-use Rattle.std.specs.Prelude.{Result, Ok, Err, String}
-use Rattle.std.specs.declared.alloc.Global.{Global}
+use Rattle.std.proofs.Common.{◌≡◌, ℕ, List, [], arith}
+use Rattle.std.specs.Prelude.{Result, Ok, Err}
 use Rattle.pool_law.specs.declared.run.Run.{Run}
 use Rattle.play_check.specs.declared.Played.{Played}
 use Rattle.play_check.specs.declared.Played.TheVariants as says
@@ -65,8 +64,3 @@ of_source WriteFault words src out none e = (none, e)
 of_source Memory words src out none e = (none, e)
 of_source Undecided words src out none e = (none, e)
 of_source Unread words src out none e = (none, e)
-
--- no words have no bytes
-pub empty_words : (words : List (String Global)) → length words ≡ 0 → map string_bytes words ≡ []
-empty_words [] e = refl
-empty_words (w ∷ words) e = absurd (omega (arith, e))

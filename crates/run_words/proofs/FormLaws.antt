@@ -8,6 +8,7 @@ use Rattle.std.specs.Cmp.Lexicographic.{bytes_decides}
 use Rattle.std.proofs.lemmas.Bool.Decides.{nat_tests}
 use Rattle.std.proofs.lemmas.List.Elements.{All-cons, All-head, All-nil, All-tail}
 use Rattle.std.proofs.lemmas.List.Sums.{passes_at_first, split_at_first}
+use Rattle.std.proofs.lemmas.Option.{same_Some}
 use Rattle.pool_law.specs.declared.run.Level.{Level}
 use Rattle.pool_law.specs.declared.run.Level.TheVariants.{Disabled, Simple, Advanced, Paranoid}
 use Rattle.run_words.specs.declared.settings.Setting.{Setting}
@@ -20,7 +21,8 @@ use Rattle.option_words.specs.Numerals.{is_numeral}
 use Rattle.option_words.specs.Options.{given_alone, has_sign, is_sign, is_whole, with_given}
 use Rattle.run_words.specs.Settings.{history_name, is_within, level_name, named, number_for, row_of, settings}
 use Rattle.run_words.specs.Words.{flag_given, given_by, givens_in, level_given, number_given, options_given, options_of}
-use Rattle.run_words.proofs.WordLaws.{inside, kept}
+use Rattle.option_words.proofs.Firsts.{kept}
+use Rattle.run_words.proofs.WordLaws.{inside}
 use Rattle.run_words.specs.WordForm.{HasForm, IsNumberFor, IsValued, OfHistory, OfLevel, OfNumber, Written, given_of, name_and_value, words_of}
 
 -- ---- names and signs
@@ -177,14 +179,11 @@ read_back (w ∷ ws) h =
 none_some : {X : Type 0} (x : X) → None ≡ Some x → ⊥
 none_some x e = cc
 
-same_some : {X : Type 0} (x y : X) → Some x ≡ Some y → x ≡ y
-same_some x y e = cc
-
 found_passes : {X : Type 0} (p : X → Bool) (xs : List X) (x : X) → find p xs ≡ Some x → p x ≡ true
 found_passes p [] x e = absurd (none_some x e)
 found_passes {X} p (y ∷ ys) x e =
     elim (p y) as (λ (b : Bool). p y ≡ b → cond b (Some y) (find p ys) ≡ Some x → p x ≡ true) [
-      | true ↦ λ passes f. subst (λ (z : X). p z ≡ true) (same_some y x f) passes
+      | true ↦ λ passes f. subst (λ (z : X). p z ≡ true) (same_Some y x f) passes
       | false ↦ λ fails f. found_passes p ys x f
     ] refl e
 
@@ -229,7 +228,7 @@ reads_by_number n text g in_one e =
           → option_map (λ k. givens.Number s k) o ≡ Some g → Reads n text g in_one) [
             | None ↦ λ has h. absurd (none_some g h)
             | Some k ↦ λ has h.
-                subst (λ (x : Given). Reads n text x in_one) (same_some _ g h) (reads_number n text s k in_one is has)
+                subst (λ (x : Given). Reads n text x in_one) (same_Some _ g h) (reads_number n text s k in_one is has)
           ] refl f
     ] refl e
 
@@ -248,7 +247,7 @@ reads_by_level n text g in_one is e =
     elim (level_named text) as (λ (o : Option Level). level_named text ≡ o
     → option_map (λ l. givens.Level l) o ≡ Some g → Reads n text g in_one) [
       | None ↦ λ has f. absurd (none_some g f)
-      | Some l ↦ λ has f. subst (λ (x : Given). Reads n text x in_one) (same_some _ g f)
+      | Some l ↦ λ has f. subst (λ (x : Given). Reads n text x in_one) (same_Some _ g f)
           (reads_level n text l in_one is has)
     ] refl e
 
@@ -291,10 +290,10 @@ splits : (given : Option Given) (others : Option (List Given)) (gs : List Given)
 splits None others gs e = absurd (none_some gs e)
 splits (Some g) None gs e = absurd (none_some gs e)
 splits (Some g) (Some hs) gs e =
-    record { first = g; rest = hs; here = refl; there = refl; all = same_some (g ∷ hs) gs e }
+    record { first = g; rest = hs; here = refl; there = refl; all = same_Some (g ∷ hs) gs e }
 
 nothing_spelled : (gs : List Given) → Some [] ≡ Some gs → Spells [] gs
-nothing_spelled gs e = record { written = []; spelling = refl; values = All-nil IsValued; giving = same_some [] gs e }
+nothing_spelled gs e = record { written = []; spelling = refl; values = All-nil IsValued; giving = same_Some [] gs e }
 
 -- a word round its first sign
 cut : (word : List ℕ) → has_sign word ≡ true → word ≡ before_first is_sign word ++ codes "=" ++ after_first is_sign word
@@ -320,7 +319,7 @@ unfolding flag_given
 flag_back word g e =
     elim (bytes_eq word history_name) as (λ (b : Bool). bytes_eq word history_name ≡ b
     → (if b then Some givens.History else None) ≡ Some g → (word ≡ history_name) × (givens.History ≡ g)) [
-      | true ↦ λ is f. ((bytes_decides word history_name).0 is, same_some _ g f)
+      | true ↦ λ is f. ((bytes_decides word history_name).0 is, same_Some _ g f)
       | false ↦ λ is f. absurd (none_some g f)
     ] refl e
 
@@ -335,7 +334,7 @@ alone_first word rest g gs whole e others =
       | Some h ↦ λ flag sign f.
           let is = flag_back word h flag in
           let here = ap (λ (x : List ℕ). x ∷ rest) is.0 in
-          written_first OfHistory (word ∷ rest) rest g gs here tt (is.1 ∙ same_some h g f) others
+          written_first OfHistory (word ∷ rest) rest g gs here tt (is.1 ∙ same_Some h g f) others
       | None ↦ λ flag sign f.
           let split = ap (λ (x : List ℕ). x ∷ rest) (cut word sign) in
           valued_first _ _ true (word ∷ rest) rest g gs split f others

@@ -1,13 +1,14 @@
 -- What the words give and ask for, from the first word on.
-use Rattle.std.proofs.Common.{◌≡◌, ℕ, ◌<◌, ◌≤◌, ◌∙◌, List, [], ◌∷◌, length, refl, true, false, Bool, arith, Some, None, sym, ap}
-use Rattle.std.specs.Prelude.{Option, if◌then◌else◌, ◌&&◌, option_and_then}
+use Rattle.std.proofs.Common.{◌≡◌, ℕ, ◌<◌, ◌≤◌, ◌∙◌, List, [], ◌∷◌, length, refl, true, Bool, arith, Some, None, sym, ap}
+use Rattle.std.specs.Prelude.{Option, if◌then◌else◌, option_and_then}
 use Rattle.std.proofs.lemmas.Bool.Decides.{nat_tests}
+use Rattle.std.proofs.lemmas.Option.{none-some}
 use Rattle.run_words.specs.declared.settings.Setting.{Setting}
 use Rattle.run_words.specs.declared.asked.Given.{Given}
 use Rattle.run_words.specs.declared.asked.Asked.{Asked}
 use Rattle.run_words.specs.Settings.{RowData, is_within, number_for, row_of}
 use Rattle.option_words.specs.Options.{first_given}
-use Rattle.option_words.proofs.Firsts.{givens_from, no_givens, with_all}
+use Rattle.option_words.proofs.Firsts.{asked_first, givens_from, kept, no_givens}
 use Rattle.run_words.specs.declared.words.RunOptions.{RunOptions}
 use Rattle.run_words.specs.Pools.{is_within_memory}
 use Rattle.run_words.specs.Words.{IsInRange, asked_by, asked_from, asked_with, flag_given, given_by, givens_in, nothing, options_for, options_given, options_of, within_memory}
@@ -29,31 +30,15 @@ pub asked_none : (asked : Asked) (words : List (List ℕ)) → 0 < length words
     → asked_in asked words ≡ None
 asked_none asked words some first = rw (no_givens flag_given given_by words some first) refl
 
-asked_first : (asked : Asked) (g : Given) (gs : Option (List Given)) (o : Option Asked) → asked_with asked g ≡ o
-    → option_and_then (asked_from asked) (with_all g gs) ≡ option_and_then (λ b. option_and_then (asked_from b) gs) o
-asked_first asked g None None e = refl
-asked_first asked g None (Some b) e = refl
-asked_first asked g (Some gs) o e = ap (option_and_then (λ b. asked_from b gs)) e
-
 -- the first words give one more
 pub asked_next : (asked : Asked) (words : List (List ℕ)) (g : Given) (rest : List (List ℕ))
     → first_given flag_given given_by words ≡ Some (g, rest)
     → asked_in asked words ≡ option_and_then (λ b. asked_in b rest) (asked_with asked g)
 asked_next asked words g rest first =
     rw (givens_from flag_given given_by words g rest first)
-    (asked_first asked g (givens_in rest) (asked_with asked g) refl)
+    (asked_first asked_from asked g (givens_in rest) (asked_with asked g) (λ gs. refl))
 
 -- ---- numbers in their range
-
-some_none : {X : Type 0} (n : X) → None ≡ Some n → ⊥
-some_none n e = cc
-
--- what passed two tests
-pub kept : {X : Type 0} (a b : Bool) (m n : X) → (if a && b then Some m else None) ≡ Some n
-    → (a ≡ true) × (b ≡ true) × (m ≡ n)
-kept true true m n e = (refl, refl, cc)
-kept true false m n e = absurd (some_none n e)
-kept false b m n e = absurd (some_none n e)
 
 pub inside : (r : RowData) (n : ℕ) → is_within r n ≡ true → (r.least ≤ n) × (n ≤ r.greatest)
 inside r n h = (grind (arith, nat_tests), grind (arith, nat_tests))
@@ -70,7 +55,7 @@ in_range s text n e =
 
 given_twice : (x : Option (List Given)) (a : Asked) → Some a ≡ option_and_then (asked_from nothing) x
     → option_and_then options_given x ≡ option_and_then within_memory (options_for a)
-given_twice None a e = absurd (some_none a (sym e))
+given_twice None a e = absurd (none-some a (sym e))
 given_twice (Some gs) a e = ap (option_and_then (λ b. option_and_then within_memory (options_for b))) (sym e)
 
 -- what is asked for comes to these options, within their bounds

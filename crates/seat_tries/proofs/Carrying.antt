@@ -1,15 +1,13 @@
 -- What calls on roots leave to a seat, whatever it has in hand.
-use Rattle.std.proofs.Common.{◌≡◌, ℕ, ◌-◌, ◌<◌, ◌≤◌, List, [], ◌∷◌, Bool, true, false, Option, Some, None, refl, ap, arith}
-use Rattle.std.specs.Prelude.{◌&&◌, ◌==◌, if◌then◌else◌, IfSome}
+use Rattle.std.proofs.Common.{ℕ, ◌-◌, ◌<◌, List, [], ◌∷◌, Option, Some, refl, ap, arith}
+use Rattle.std.specs.Prelude.{◌&&◌, ◌==◌, IfSome}
 use Rattle.pool_law.specs.declared.id.Parcel.{Parcel}
 use Rattle.pool_law.specs.declared.id.RootId.{RootId}
-use Rattle.pool_law.specs.declared.id.ViewData.{ViewData}
 use Rattle.pool_law.specs.declared.note.Did.{Did}
 use Rattle.pool_law.specs.declared.note.Object.TheVariants.{Root}
 use Rattle.pool_law.specs.declared.note.RefDid.TheVariants.{Look, Retain}
 use Rattle.pool_law.specs.Naming.{noted_by}
 use Rattle.pool_law.specs.Same.{same_root}
-use Rattle.history_laws.specs.NoteCounts.{one_if_so, view_of_root}
 use Rattle.pool_table.specs.declared.views.Entry.{Entry}
 use Rattle.pool_table.specs.declared.views.Entry.TheVariants.{At, Ref}
 use Rattle.pool_table.specs.declared.views.SeatView.{SeatView}
@@ -21,13 +19,14 @@ use Rattle.shared_pool.specs.RootNotes.{access}
 use Rattle.shared_pool.specs.SeatLanes.{lane_of}
 use Rattle.shared_pool.specs.Seats.{IsNoted, IsPoolSeat}
 use Rattle.shared_pool.specs.SeatViews.{HasView, view_of}
-use Rattle.seat_work.specs.Changes.{Changes, Holds, IsPaid, no_change, once_more, times}
-use Rattle.seat_work.specs.HandOvers.{fetched, posted, roots_in, Sends}
+use Rattle.seat_work.specs.Changes.{Changes, no_change, once_more}
+use Rattle.seat_work.specs.HandOvers.{fetched, posted, Sends}
 use Rattle.seat_work.specs.Hands.{Hand, lane_in}
 use Rattle.seat_work.specs.Works.{Goes, Proceeds, Works}
 use Rattle.seat_work.proofs.Calls.{proceeds_noted}
-use Rattle.seat_work.proofs.Counting.{Tells, changes_by, holds_one, one_as}
+use Rattle.seat_work.proofs.Counting.{Tells, changes_by, one_as}
 use Rattle.seat_work.proofs.Grown.{Grows, grows_mailed, grows_ref}
+use Rattle.seat_work.proofs.HandedOver.{holds_view, in_parcel, one_letter}
 use Rattle.seat_work.proofs.HandLaws.{Carries}
 use Rattle.seat_work.proofs.HandNotes.{fetch_entry, post_entry, ref_carries, weightless}
 use Rattle.seat_work.proofs.Proceeding.{goes_by, proceeds_by, sends_by}
@@ -112,23 +111,6 @@ module _ (from to number : ℕ) (lane : Option ℕ) (parcel : Parcel) (m : ℕ) 
     quotas = λ class. refl;
     closes = λ class. refl;
   }
-
--- a parcel's root is in its list once, and no other is
-one_as_so : (b : Bool) → one_if_so b ≡ (if b then 1 else 0)
-one_as_so true = refl
-one_as_so false = refl
-
-in_parcel : (root : RootId) (o : Option ViewData) → view_of_root root o ≡ times root (roots_in o)
-in_parcel root None = refl
-in_parcel root (Some x) = let a = one_as_so (same_root x.root root) in omega (arith, a)
-
-holds_view : (v : SeatView) (o : Option ViewData) → IsPaid v → IfSome o (λ x. HasCount x.root v) → Holds (roots_in o) v
-holds_view v None paid counts = paid
-holds_view v (Some x) paid counts = holds_one v x.root paid counts
-
-one_letter : (x : Bool) → one_if_so x ≤ 1
-one_letter true = omega arith
-one_letter false = omega arith
 
 -- ---- A seat with this in hand.
 

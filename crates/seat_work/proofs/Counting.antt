@@ -1,6 +1,8 @@
 -- What entries that a seat adds tell of its counts, and of what it found.
-use Rattle.std.proofs.Common.{◌≡◌, ℕ, ◌+◌, ◌≤◌, List, [], ◌∷◌, Bool, true, false, cond, refl, ap, subst, arith}
-use Rattle.std.specs.Prelude.{sum_by, if◌then◌else◌}
+use Rattle.std.proofs.Common.{◌≡◌, ◌≢◌, ℕ, ◌+◌, ◌≤◌, List, [], ◌∷◌, Bool, true, false, cond, refl, sym, ap, subst, arith, ne_eqb}
+use Rattle.std.specs.Prelude.{◌==◌, sum_by, if◌then◌else◌}
+use Rattle.std.proofs.lemmas.Bool.{and_left, both_ways}
+use Rattle.std.proofs.lemmas.List.Sums.{sum_by-cons}
 use Rattle.pool_law.specs.declared.id.RootId.{RootId}
 use Rattle.pool_law.specs.Same.{same_root}
 use Rattle.pool_law.proofs.PatternLemmas.{same_root-refl}
@@ -51,8 +53,24 @@ module _ (c : Change) (v w : SeatView) (changes : Changes c v w) where
   pub paid_after : Holds c.gone v → IsPaid w
   paid_after holds root = let a = holds_after holds root in omega (arith, a)
 
+-- a list with one more root counts it once more
+pub times-cons : (root first : RootId) (rs : List RootId) → times root (first ∷ rs) ≡ one_for first root + times root rs
+times-cons root first rs = sum_by-cons (λ (r : RootId). one_for r root) first rs
+
 pub one_self : (root : RootId) → one_for root root ≡ 1
 one_self root = ap (λ (b : Bool). if b then 1 else 0) (same_root-refl root)
+
+pub zero_if : (b : Bool) (n : ℕ) → n ≡ 0 → (if b then n else 0) ≡ 0
+zero_if true n e = e
+zero_if false n e = refl
+
+-- of two roots at different places at most one is this one
+pub other_place : (root other : RootId) → other.place ≢ root.place → same_root root other ≡ false
+other_place root other ne = and_left (root.place == other.place) _ (ne_eqb root.place other.place (λ e. ne (sym e)))
+
+pub other_root : (root other : RootId) → same_root root other ≡ false → other ≢ root
+other_root root other differs e =
+    both_ways (same_root root other) differs (subst (λ r. same_root root r ≡ true) (sym e) (same_root-refl root))
 
 -- a root that is counted is one that the view holds
 pub holds_one : (v : SeatView) (r : RootId) → IsPaid v → HasCount r v → Holds (r ∷ []) v

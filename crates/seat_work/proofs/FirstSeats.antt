@@ -2,8 +2,10 @@
 use Rattle.std.proofs.Common.{◌≡◌, ℕ, ◌+◌, ◌≤◌, Bool, true, false, [], refl, sym, subst, arith, le-ltb}
 use Rattle.std.specs.Prelude.{◌==◌, if◌then◌else◌}
 use Rattle.shared_pool.specs.declared.seat.PoolSeat.{PoolSeat}
+use Rattle.pool_law.specs.declared.id.RootId.{RootId}
 use Rattle.pool_table.specs.declared.views.Layout.{Layout}
 use Rattle.pool_table.specs.declared.views.SeatView.{SeatView}
+use Rattle.pool_table.specs.Counts.{gained_of, lost_of}
 use Rattle.shared_pool.specs.SeatViews.{view_of}
 use Rattle.shared_pool.specs.declared.pool.SharedPool.{SharedPool}
 use Rattle.shared_pool.specs.Opening.{IsOpened}
@@ -43,6 +45,14 @@ module _ (v : SeatView) (own : v.own.notes ≡ []) (alone : v.others ≡ []) whe
 
   new_paid : IsPaid v
   new_paid = subst IsPaid bare_is bare_paid
+
+-- a view without notes counts no root
+pub fresh_counts : (v : SeatView) (root : RootId) → v.own.notes ≡ [] → v.others ≡ []
+    → (gained_of root v ≡ 0) × (lost_of root v ≡ 0)
+fresh_counts v root notes others =
+    subst (λ (u : SeatView). (gained_of root u ≡ 0) × (lost_of root u ≡ 0))
+    (λ i. record v { own = record { number = v.own.number; notes = sym notes i }; others = sym others i })
+    (refl, refl)
 
 pub has_nothing : (v : SeatView) → IsHeld empty_hand v → HasNothing v
 has_nothing v held = record {

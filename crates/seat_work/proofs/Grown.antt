@@ -45,7 +45,7 @@ pub record Grows (v w : SeatView) (added : List Entry) (spent : ℕ) : Type 0 wh
   pub moves : v.moves ≤ w.moves + spent
 
 -- a view with one part weighs what that part weighs
-weigh_own : (f : Entry → ℕ) (v : SeatView) → v.others ≡ [] → weigh f v ≡ in_own f v
+pub weigh_own : (f : Entry → ℕ) (v : SeatView) → v.others ≡ [] → weigh f v ≡ in_own f v
 weigh_own f v alone =
     let g : Part → ℕ = λ (p : Part). sum_by f p.notes in
     let a : weigh f v ≡ g v.own + sum_by g v.others = sum_by-cons g v.own v.others in

@@ -26,20 +26,21 @@ use Rattle.seat_work.proofs.HandNotes.{post_entry, fetch_entry, post_carries, fe
 use Rattle.seat_work.proofs.Proceeding.{goes_by, proceeds_by, sends_by}
 
 -- a parcel's root is in its list once, and no other is
-one_as_so : (b : Bool) → one_if_so b ≡ (if b then 1 else 0)
+pub one_as_so : (b : Bool) → one_if_so b ≡ (if b then 1 else 0)
 one_as_so true = refl
 one_as_so false = refl
 
-in_parcel : (root : RootId) (o : Option ViewData) → view_of_root root o ≡ times root (roots_in o)
+pub in_parcel : (root : RootId) (o : Option ViewData) → view_of_root root o ≡ times root (roots_in o)
 in_parcel root None = refl
 in_parcel root (Some x) = let a = one_as_so (same_root x.root root) in omega (arith, a)
 
-holds_view : (v : SeatView) (o : Option ViewData) → IsPaid v → IfSome o (λ x. HasCount x.root v) → Holds (roots_in o) v
+pub holds_view : (v : SeatView) (o : Option ViewData) → IsPaid v → IfSome o (λ x. HasCount x.root v)
+    → Holds (roots_in o) v
 holds_view v None paid counts = paid
 holds_view v (Some x) paid counts = holds_one v x.root paid counts
 
 -- one entry sends one letter at most
-one_letter : (x : Bool) → one_if_so x ≤ 1
+pub one_letter : (x : Bool) → one_if_so x ≤ 1
 one_letter true = omega arith
 one_letter false = omega arith
 

@@ -2,7 +2,7 @@
 use Rattle.std.proofs.Common.{◌≡◌, ℕ, zero, suc, ◌+◌, ◌≤◌, List, [], ◌∷◌, ◌++◌, Bool, true, false, length, refl, sym, ap, ◌∙◌, subst, arith, append_assoc, append-nil, length-append, Some}
 use Rattle.std.specs.Prelude.{◌&&◌, ◌||◌, slice_get, sum_by, Option, None, Result, Ok, Err, IfOk}
 use Rattle.std.specs.List.{list_all}
-use Rattle.std.proofs.lemmas.Bool.{and_parts}
+use Rattle.std.proofs.lemmas.Bool.{or_left, and_parts}
 use Rattle.handle_bin.specs.Bins.{HandleValue}
 use Rattle.pool_arena.specs.Standing.{taken_or_full}
 use Rattle.pool_law.specs.declared.id.Region.{Region}
@@ -84,16 +84,12 @@ or_last true = refl
 or_last false = refl
 
 -- quiet entries are quiet but for a root
-or_else : (a b : Bool) → a ≡ true → (a || b) ≡ true
-or_else false b is = absurd (cc is)
-or_else true b is = refl
-
 pub quiet_too : (root : RootId) (es : List Entry) → list_all is_quiet_entry es ≡ true
     → list_all (is_quiet_but root) es ≡ true
 quiet_too root [] quiet = refl
 quiet_too root (e ∷ es) quiet =
     let both = and_parts (is_quiet_entry e) (list_all is_quiet_entry es) quiet in
-    (λ i. or_else (is_quiet_entry e) (asks_root root e) both.0 i && list_all (is_quiet_but root) es)
+    (λ i. or_left (is_quiet_entry e) (asks_root root e) both.0 i && list_all (is_quiet_but root) es)
     ∙ quiet_too root es both.1
 
 -- ---- Where an entry stands.

@@ -14,5 +14,6 @@ pub mod Later
 pub mod Regrowing
 pub mod Worn
 pub mod FirstSeats
+pub mod NotedCounts
 pub mod MailRooms
 pub mod Trials

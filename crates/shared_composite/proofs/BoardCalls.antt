@@ -24,6 +24,7 @@ use Rattle.shared_composite.specs.Boards.{origin_of, IsPoolOf, IsAtHome, InSecti
 use Rattle.shared_composite.proofs.CoreLaws.{kept_on, kept_self}
 use Rattle.shared_composite.proofs.Boxes.{place_at, places_are, box_at, boxed_cores, boxed_length}
 use Rattle.std.proofs.lemmas.List.{length-map}
+use Rattle.std.proofs.lemmas.Option.{same_Some}
 
 -- the home value is a core of the board
 pub at_home : (y : Option Origin) (k : ℕ) (x : Home) → StandsIn HomeStands y k x
@@ -31,15 +32,12 @@ pub at_home : (y : Option Origin) (k : ℕ) (x : Home) → StandsIn HomeStands y
 at_home None k x st = absurd st
 at_home (Some origin) k x st = (origin, refl, st)
 
-some_one : (a b : Origin) → ◌≡◌ {A = Option Origin} (Some a) (Some b) → a ≡ b
-some_one a b e = cc e
-
 -- it is one of this pool
 pub of_pool : (y : Option Origin) (pool : SharedPool) (k : ℕ) (core : Core)
     → (origin : Origin) × (y ≡ Some origin) × (pool ≡ origin.pool)
     → (origin : Origin) × (y ≡ Some origin) × CoreStands origin k core → IsCore pool core
 of_pool y pool k core is at =
-    let same : at.0 ≡ is.0 = some_one at.0 is.0 (sym at.1 ∙ is.1) in
+    let same : at.0 ≡ is.0 = same_Some at.0 is.0 (sym at.1 ∙ is.1) in
     subst (λ (p : SharedPool). IsCore p core) (ap (λ (o : Origin). o.pool) same ∙ sym is.2) at.2.core_is
 
 -- its components are those of the composite
@@ -54,7 +52,7 @@ pub still_home : (y : Option Origin) (pool : SharedPool) (k : ℕ) (core after :
     → (origin : Origin) × (y ≡ Some origin) × CoreStands origin k core → IsCore pool after → IsKept core after
     → (origin : Origin) × (y ≡ Some origin) × CoreStands origin k after
 still_home y pool k core after is at after_is kept =
-    let same : at.0 ≡ is.0 = some_one at.0 is.0 (sym at.1 ∙ is.1) in (
+    let same : at.0 ≡ is.0 = same_Some at.0 is.0 (sym at.1 ∙ is.1) in (
       at.0,
       at.1,
       record {

@@ -1,10 +1,8 @@
 -- A component of a core: its root is one of the core's, and its seat counts it.
 use Rattle.std.proofs.Common.{◌≡◌, ℕ, zero, suc, ◌+◌, ◌≤◌, List, [], ◌∷◌, ap, ◌∙◌, subst, arith}
 use Rattle.std.specs.Prelude.{Contains, Some, slice_get}
-use Rattle.std.proofs.lemmas.List.Sums.{sum_by-cons}
 use Rattle.std.proofs.lemmas.Option.{get_or_from_slice_get}
 use Rattle.pool_law.specs.declared.id.Part.{Part}
-use Rattle.pool_law.specs.declared.id.RootId.{RootId}
 use Rattle.pool_law.specs.Composites.{cut}
 use Rattle.pool_law.proofs.ListLemmas.{slice_get-below}
 use Rattle.pool_table.specs.Capacities.{knows_of}
@@ -12,7 +10,7 @@ use Rattle.pool_table.specs.Counts.{HasCount}
 use Rattle.shared_pool.specs.declared.pool.SharedPool.{SharedPool}
 use Rattle.shared_pool.specs.SeatViews.{view_of}
 use Rattle.seat_work.specs.Changes.{one_for, times}
-use Rattle.seat_work.proofs.Counting.{one_self}
+use Rattle.seat_work.proofs.Counting.{times-cons, one_self}
 use Rattle.shared_composite.specs.declared.cores.Core.{Core}
 use Rattle.shared_composite.specs.Cores.{IsCore, IsKnown, roots_of}
 
@@ -26,17 +24,14 @@ contains_root (q ∷ ps) zero p there = (0, omega arith, ap (λ (x : Part). x.ro
 contains_root (q ∷ ps) (suc k) p there =
     let c = contains_root ps k p there in (suc c.0, (let lt = c.1 in omega (arith, lt)), c.2)
 
-one_more : (root first : RootId) (rs : List RootId) → times root (first ∷ rs) ≡ one_for first root + times root rs
-one_more root first rs = sum_by-cons (λ (r : RootId). one_for r root) first rs
-
 counts_root : (ps : List Part) (k : ℕ) (p : Part) → slice_get ps k ≡ Some p → 1 ≤ times p.root (roots_of ps)
 counts_root [] k p there = absurd (cc there)
 counts_root (q ∷ ps) zero p there =
     let one : one_for q.root p.root ≡ 1 = ap (λ (x : Part). one_for x.root p.root) (part_is ps q p there)
     ∙ one_self p.root in
-    let a = one_more p.root q.root (roots_of ps) in omega (arith, one, a)
+    let a = times-cons p.root q.root (roots_of ps) in omega (arith, one, a)
 counts_root (q ∷ ps) (suc k) p there =
-    let a = one_more p.root q.root (roots_of ps) in let b = counts_root ps k p there in omega (arith, a, b)
+    let a = times-cons p.root q.root (roots_of ps) in let b = counts_root ps k p there in omega (arith, a, b)
 
 module _ (pool : SharedPool) (c : Core) (core : IsCore pool c) (k : ℕ) (p : Part)
     (there : slice_get c.parts k ≡ Some p) where

@@ -9,6 +9,7 @@ use Rattle.pool_law.specs.Places.{IsInPlace}
 use Rattle.pool_law.specs.Same.{same_root}
 use Rattle.pool_law.proofs.SameLemmas.{same_root-is}
 use Rattle.history_laws.specs.NoteCounts.{is_taking, uses_in}
+use Rattle.history_laws.proofs.ArenaTakings.{at_most}
 use Rattle.handle_bin.specs.Bins.{HandleValue}
 use Rattle.pool_table.specs.declared.views.Entry.{Entry}
 use Rattle.pool_table.specs.declared.views.SeatView.{SeatView}
@@ -54,13 +55,9 @@ nothing_only v only = record {
 
 -- ---- The token in hand.
 
-at_most_one : (b : Bool) → cond {A = ℕ} b 1 0 ≤ 1
-at_most_one true = omega arith
-at_most_one false = omega arith
-
 one_token : (root : RootId) (o : Option RootId) → is_token root o ≤ 1
 one_token root None = omega arith
-one_token root (Some other) = at_most_one (same_root other root)
+one_token root (Some other) = at_most (same_root other root)
 
 is_true : (b : Bool) → cond {A = ℕ} b 1 0 ≡ 1 → b ≡ true
 is_true true one = refl

@@ -1,28 +1,21 @@
 -- The commands of a lane may be given to it: what it receives gets a name that is new.
 use Rattle.std.proofs.Common.{◌≡◌, ℕ, zero, suc, ◌+◌, ◌-◌, ◌*◌, ◌<◌, ◌≤◌, List, [], ◌∷◌, ◌++◌, refl, ◌∙◌, arith, true, false, Bool, append_assoc, append-nil}
-use Rattle.std.specs.Prelude.{not, ◌&&◌, nat_lt, nat_eq, replicate}
+use Rattle.std.specs.Prelude.{not, nat_lt, nat_eq, replicate}
 use Rattle.std.specs.List.{list_all}
-use Rattle.std.proofs.lemmas.Bool.{ne_eqb, lt-ltb}
+use Rattle.std.proofs.lemmas.Bool.{and_parts, ne_eqb, lt-ltb}
 use Rattle.std.proofs.lemmas.List.Folds.{list_all-append}
 use Rattle.std.proofs.Math.Nat.{mod-lt}
 use Rattle.pool_law.specs.declared.command.Command.{Command}
 use Rattle.pool_law.specs.declared.command.Command.TheVariants.{Alloc, Set, Get, Slice, Send}
 use Rattle.pool_law.specs.declared.run.Shape.{Shape}
 use Rattle.pool_law.specs.Legal.{new_name, is_named, fits_after, all_fit}
+use Rattle.pool_law.proofs.PatternLemmas.{both_true}
 use Rattle.trace_make.specs.Draws.{draw_after}
 use Rattle.trace_make.specs.Generated.{lane_after, lane_before, buffer_name, slice_name, received_name, drawn_size, drawn_byte, block_of, drawn_block, joined}
 
 -- a command doesn't bring the name
 abbrev is_free : ℕ → Command → Bool
 is_free name c = not (is_named name (new_name c))
-
-both_true : (a b : Bool) → a ≡ true → b ≡ true → (a && b) ≡ true
-both_true true b x y = y
-both_true false b x y = cc
-
-split_true : (a b : Bool) → (a && b) ≡ true → (a ≡ true) × (b ≡ true)
-split_true true b h = (refl, h)
-split_true false b h = cc
 
 -- ---- Names.
 
@@ -68,7 +61,7 @@ fit_append : (shape : Shape) (earlier xs ys : List Command) → all_fit shape ea
     → all_fit shape (earlier ++ xs) ys ≡ true → all_fit shape earlier (xs ++ ys) ≡ true
 fit_append shape earlier [] ys front behind = rw append-nil at behind
 fit_append shape earlier (x ∷ xs) ys front behind =
-    let (first, rest) = split_true (fits_after shape earlier x) (all_fit shape (earlier ++ x ∷ []) xs) front in
+    let (first, rest) = and_parts (fits_after shape earlier x) (all_fit shape (earlier ++ x ∷ []) xs) front in
     let next : all_fit shape ((earlier ++ x ∷ []) ++ xs) ys ≡ true = rw append_assoc behind in
     rw (first, fit_append shape (earlier ++ x ∷ []) xs ys rest next) refl
 

@@ -1,5 +1,6 @@
 use Rattle.std.proofs.Common.{rules}
-use Rattle.run_judge.proofs.OutcomeLaws.{of_source, empty_words}
+use Rattle.text_ends.proofs.Readings.{empty_words}
+use Rattle.run_judge.proofs.OutcomeLaws.{of_source}
 use Rattle.run_judge.proofs.run.run_judge.Goals as goal
 
 pub returns-then-is_empty-clause-outcome : goal.returns-then-is_empty-clause-outcome
