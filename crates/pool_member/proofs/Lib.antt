@@ -1,0 +1,18 @@
+mod CountLaws
+mod ToldLaws
+mod AloneLaws
+pub mod Letters
+pub mod Pendings
+pub mod Alone
+pub mod AloneLater
+pub mod Keeping
+pub mod Budgets
+pub mod MoveLaws
+pub mod Accessing
+pub mod Settling
+pub mod Asking
+pub mod Trims
+pub mod Passing
+pub mod Lists
+pub mod Opened
+pub mod Ended

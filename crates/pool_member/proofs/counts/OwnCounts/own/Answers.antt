@@ -1,0 +1,61 @@
+use Rattle.std.proofs.Common.{◌≡◌, ◌⊎◌, ◌<◌, true, length, refl, sym, ap, ◌∙◌, subst, Some}
+use Rattle.std.specs.Prelude.{slice_get}
+use Rattle.std.proofs.lemmas.Option.{slice_get_read}
+use Rattle.pool_member.specs.Counting.{counted, is_alone, told}
+use Rattle.pool_member.specs.declared.counts.Counted.{Counted}
+use Rattle.pool_member.proofs.AloneLaws.{alone_more, alone_now, alone_own}
+use Rattle.pool_member.proofs.CountLaws.{counted_same, counted_within}
+use Rattle.pool_member.proofs.ToldLaws.{counted_here, told_same}
+use Rattle.pool_member.proofs.counts.OwnCounts.own.Goals as goal
+
+pub returns-clause-counts : goal.returns-clause-counts
+returns-clause-counts c =
+    let cs = c.self.inside.by_place.items in let root = c.args.root in
+    let old : Counted = c.index_mut.result.now in
+    let lt : 0 < counted cs root = subst (λ xs. 0 < counted xs root) (sym c.self.view_is) c.requires in
+    let at : slice_get cs root.place ≡ Some old = slice_get_read cs (length cs) root.place old refl
+    (counted_within cs root lt) c.index_mut.ensures.value in
+    λ other.
+    counted_same cs root old at (record old { alone = true }) refl refl other
+    ∙ ap (λ xs. counted xs other) c.self.view_is
+
+pub returns-clause-tells : goal.returns-clause-tells
+returns-clause-tells c =
+    let cs = c.self.inside.by_place.items in let root = c.args.root in
+    let old : Counted = c.index_mut.result.now in
+    let lt : 0 < counted cs root = subst (λ xs. 0 < counted xs root) (sym c.self.view_is) c.requires in
+    let at : slice_get cs root.place ≡ Some old = slice_get_read cs (length cs) root.place old refl
+    (counted_within cs root lt) c.index_mut.ensures.value in
+    λ other.
+    told_same cs root old at (record old { alone = true }) refl refl other ∙ ap (λ xs. told xs other) c.self.view_is
+
+pub returns-clause-alone : goal.returns-clause-alone
+returns-clause-alone c =
+    let cs = c.self.inside.by_place.items in let root = c.args.root in
+    let old : Counted = c.index_mut.result.now in
+    let lt : 0 < counted cs root = subst (λ xs. 0 < counted xs root) (sym c.self.view_is) c.requires in
+    let at : slice_get cs root.place ≡ Some old = slice_get_read cs (length cs) root.place old refl
+    (counted_within cs root lt) c.index_mut.ensures.value in
+    λ other is.
+    subst (λ xs. (other ≡ root) ⊎ (is_alone xs other ≡ true)) c.self.view_is
+    (alone_own cs root old at (record old { alone = true }) (counted_here cs root old at lt) other is)
+
+pub returns-clause-own : goal.returns-clause-own
+returns-clause-own c =
+    let cs = c.self.inside.by_place.items in let root = c.args.root in
+    let old : Counted = c.index_mut.result.now in
+    let lt : 0 < counted cs root = subst (λ xs. 0 < counted xs root) (sym c.self.view_is) c.requires in
+    let at : slice_get cs root.place ≡ Some old = slice_get_read cs (length cs) root.place old refl
+    (counted_within cs root lt) c.index_mut.ensures.value in
+    alone_now cs root old at (record old { alone = true }) (counted_here cs root old at lt) refl
+
+pub returns-clause-owns : goal.returns-clause-owns
+returns-clause-owns c =
+    let cs = c.self.inside.by_place.items in let root = c.args.root in
+    let old : Counted = c.index_mut.result.now in
+    let lt : 0 < counted cs root = subst (λ xs. 0 < counted xs root) (sym c.self.view_is) c.requires in
+    let at : slice_get cs root.place ≡ Some old = slice_get_read cs (length cs) root.place old refl
+    (counted_within cs root lt) c.index_mut.ensures.value in
+    λ other is.
+    alone_more cs root old at (record old { alone = true }) refl refl other
+    (subst (λ xs. is_alone xs other ≡ true) (sym c.self.view_is) is)

@@ -1,0 +1,15 @@
+pub mod Counting
+pub mod Windows
+pub mod Pendings
+pub mod Alone
+pub mod Threads
+pub mod Refusals
+pub mod Tries
+pub mod Answers
+pub mod Attempts
+pub mod Regrowths
+pub mod Growths
+pub mod Trims
+pub mod Configs
+pub mod Opening
+pub mod Closing

@@ -1,0 +1,175 @@
+//! How often a thread counts each root.
+
+ghost use Rattle.std.specs.Prelude.{◌≡◌, ◌+◌, ◌-◌, ◌<◌, ◌≤◌, ◌^◌, ◌⊎◌, false, max, if◌then◌else◌, length, IfOk, IsTrue};
+ghost use Rattle.pool_law.specs.declared.id.RootId.{RootId};
+ghost use Rattle.pool_law.specs.Same.{same_root};
+ghost use Rattle.pool_member.specs.Counting.{counted, is_alone, told};
+ghost use Rattle.seat_work.specs.Changes.{one_for};
+
+use pool_law::RootId;
+use std::alloc::{AllocError, Global};
+use std::marker::Model;
+
+// The root of a place that the thread counted last, how often it counts it, the most capacity that
+// it was told of it since its birth, and whether it alone has it for certain.
+#[derive(Drop)]
+struct Counted {
+    root: RootId,
+    count: u64,
+    told: u32,
+    alone: bool,
+}
+
+/// A thread's own counts: it counts at most one root of each place.
+#[derive(Drop)]
+pub struct OwnCounts {
+    by_place: Vec<Counted>,
+}
+
+impl Model for OwnCounts {
+    ghost use Rattle.std.specs.Prelude.{List};
+    ghost use Rattle.pool_member.specs.declared.counts.Counted.{Counted};
+
+    ghost Value = { List Counted };
+
+    ghost view = { λ counts. counts.by_place.items };
+}
+
+impl OwnCounts {
+    /// No counts at so many root places.
+    pub(crate) fn new(alloc: Global, places: u32) -> Result<OwnCounts, AllocError>
+        ensures none { IfOk result (λ counts. (root : RootId) → counted counts root ≡ 0) }
+        ensures untold { IfOk result (λ counts. (root : RootId) → told counts root ≡ 0) }
+        ensures alone { IfOk result (λ counts. (root : RootId) → is_alone counts root ≡ false) }
+        ensures places { IfOk result (λ counts. length counts ≡ places) }
+    {
+        let mut by_place = Vec::with_capacity(alloc, places as usize)?;
+        for place in 0..places {
+            let root = RootId {
+                place,
+                generation: 0,
+                capacity: 0,
+            };
+            by_place.push(Counted {
+                root,
+                count: 0,
+                told: 0,
+                alone: false,
+            })?;
+        }
+        Ok(OwnCounts { by_place })
+    }
+
+    /// How often the thread counts a root, and the most capacity that it was told of it.
+    pub fn of(&self, root: RootId) -> (u64, u32)
+        ensures { result ≡ (counted self.now root, told self.now root) }
+    {
+        let Some(at_place) = self.by_place.get(root.place as usize) else {
+            return (0, 0);
+        };
+        if at_place.root == root {
+            (at_place.count, at_place.told)
+        } else {
+            (0, 0)
+        }
+    }
+
+    /// Counts a root once more. Of its place no other root is counted, and what was told of another
+    /// one is forgotten.
+    pub(crate) fn add(&mut self, root: RootId)
+        requires place { root.place < length self.old }
+        requires alone { (other : RootId) → other.place ≡ root.place →
+            0 < counted self.old other → other ≡ root }
+        requires few { counted self.old root < 2 ^ 64 - 1 }
+        ensures counts { (other : RootId) →
+            counted self.new other ≡ counted self.old other + one_for root other }
+        ensures tells { (other : RootId) → told self.new other ≤ told self.old other }
+        ensures keeps { (other : RootId) → 0 < counted self.new other →
+            told self.old other ≤ told self.new other }
+        ensures alone { (other : RootId) →
+            IsTrue (is_alone self.new other) → IsTrue (is_alone self.old other) }
+        ensures owns { (other : RootId) → 0 < counted self.old other →
+            IsTrue (is_alone self.old other) → IsTrue (is_alone self.new other) }
+        ensures places { length self.new ≡ length self.old }
+    {
+        let at_place = &mut self.by_place[root.place as usize];
+        if at_place.root == root {
+            at_place.count += 1;
+        } else {
+            *at_place = Counted {
+                root,
+                count: 1,
+                told: 0,
+                alone: false,
+            };
+        }
+    }
+
+    /// Counts a root once less.
+    pub(crate) fn take(&mut self, root: RootId)
+        requires { 0 < counted self.old root }
+        ensures counts { (other : RootId) →
+            counted self.new other + one_for root other ≡ counted self.old other }
+        ensures tells { (other : RootId) → told self.new other ≡ told self.old other }
+        ensures alone { (other : RootId) → is_alone self.new other ≡ is_alone self.old other }
+        ensures places { length self.new ≡ length self.old }
+    {
+        self.by_place[root.place as usize].count -= 1;
+    }
+
+    /// The same of a root that the thread parts with, which it does not have alone then.
+    pub(crate) fn part(&mut self, root: RootId)
+        requires { 0 < counted self.old root }
+        ensures counts { (other : RootId) →
+            counted self.new other + one_for root other ≡ counted self.old other }
+        ensures tells { (other : RootId) → told self.new other ≡ told self.old other }
+        ensures alone { (other : RootId) →
+            IsTrue (is_alone self.new other) → IsTrue (is_alone self.old other) }
+        ensures owns { (other : RootId) → same_root root other ≡ false →
+            IsTrue (is_alone self.old other) → IsTrue (is_alone self.new other) }
+        ensures gone { is_alone self.new root ≡ false }
+        ensures places { length self.new ≡ length self.old }
+    {
+        let at_place = &mut self.by_place[root.place as usize];
+        at_place.count -= 1;
+        at_place.alone = false;
+    }
+
+    /// Whether it is kept that the thread alone has a root.
+    pub fn is_alone(&self, root: RootId) -> bool
+        ensures { result ≡ is_alone self.now root }
+    {
+        match self.by_place.get(root.place as usize) {
+            Some(at_place) => at_place.root == root && at_place.alone,
+            None => false,
+        }
+    }
+
+    /// Keeps that the thread alone has a root that is counted.
+    pub fn own(&mut self, root: RootId)
+        requires { 0 < counted self.old root }
+        ensures counts { (other : RootId) → counted self.new other ≡ counted self.old other }
+        ensures tells { (other : RootId) → told self.new other ≡ told self.old other }
+        ensures alone { (other : RootId) → IsTrue (is_alone self.new other) →
+            (other ≡ root) ⊎ IsTrue (is_alone self.old other) }
+        ensures owns { (other : RootId) →
+            IsTrue (is_alone self.old other) → IsTrue (is_alone self.new other) }
+        ensures own { IsTrue (is_alone self.new root) }
+        ensures places { length self.new ≡ length self.old }
+    {
+        self.by_place[root.place as usize].alone = true;
+    }
+
+    /// Keeps that a root that is counted has so much capacity.
+    pub(crate) fn tell(&mut self, root: RootId, capacity: u32)
+        requires { 0 < counted self.old root }
+        ensures counts { (other : RootId) → counted self.new other ≡ counted self.old other }
+        ensures tells { (other : RootId) → told self.new other
+            ≡ max (told self.old other) (if same_root root other then capacity else 0) }
+        ensures alone { (other : RootId) → is_alone self.new other ≡ is_alone self.old other }
+        ensures places { length self.new ≡ length self.old }
+    {
+        let at_place = &mut self.by_place[root.place as usize];
+        at_place.told = at_place.told.max(capacity);
+    }
+}

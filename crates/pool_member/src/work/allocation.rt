@@ -1,0 +1,109 @@
+//! How a thread allocates.
+
+ghost use Rattle.std.specs.Prelude.{◌≡◌, ◌<◌, ◌≤◌, None, Some, IfOk, IfErr};
+ghost use Rattle.size_classes.specs.Sizes.{class_of};
+ghost use Rattle.pool_law.specs.Limits.{geometry_of};
+ghost use Rattle.seat_work.specs.Answers.{allocated};
+ghost use Rattle.seat_work.specs.Works.{HasBorn};
+ghost use Rattle.pool_member.specs.Counting.{counted};
+ghost use Rattle.seat_tries.specs.Allocations as tries;
+ghost use Rattle.pool_member.specs.Answers.{as_alloc, HasCause};
+ghost use Rattle.pool_member.specs.Attempts.{as_try, HasTryCause};
+ghost use Rattle.pool_member.specs.Threads.{Does, IsSettled, IsThread};
+
+use crate::member::Member;
+use crate::pending::Pending;
+use crate::work::settling::{keep, settle, try_settle};
+use pool_law::{RootId, Watch};
+use seat_work::AllocNo;
+use shared_pool::SharedPool;
+use std::sync::Wait;
+
+/// A new root of `size` bytes, all 0, which the thread then counts once. `class` is that of the
+/// size.
+pub fn allocate<W: Wait>(
+    rt: &W,
+    pool: &SharedPool,
+    member: &mut Member,
+    size: u32,
+    class: u32,
+) -> Result<RootId, AllocNo>
+    requires thread { IsThread pool.now member.old }
+    requires turns { 6 ≤ member.old.account.turns }
+    requires class { class_of (geometry_of pool.now.table.layout.shape) size ≡ Some class }
+    ensures root { IfOk result (λ root. root.capacity ≡ size) }
+    ensures counts { IfOk result (λ root. 0 < counted member.new.account.counts root) }
+    ensures does { Does pool.now 6 (allocated result) None member.old member.new }
+    ensures moves { member.new.account.moves ≡ member.old.account.moves }
+    ensures born { IfOk result (λ root. HasBorn pool.now root member.old.seat member.new.seat) }
+    ensures cause { IfErr result (λ no.
+        HasCause pool.now member.old member.new (as_alloc no)) }
+{
+    settle(rt, pool, member);
+    let watch = member.watcher.next();
+    member.account.turns -= 6;
+    match seat_work::allocate(rt, pool, &mut member.seat, size, class, watch) {
+        Ok(root) => {
+            member.account.counts.add(root);
+            Ok(root)
+        }
+        Err(no) => Err(no),
+    }
+}
+
+/// The same in one try. What was begun of it, and what could not be put away before it, is kept.
+pub fn try_allocate(
+    pool: &SharedPool,
+    member: &mut Member,
+    size: u32,
+    class: u32,
+    watch: Option<Watch>,
+) -> Result<RootId, seat_tries::AllocNo>
+    requires thread { IsThread pool.now member.old }
+    requires turns { 6 ≤ member.old.account.turns }
+    requires class { class_of (geometry_of pool.now.table.layout.shape) size ≡ Some class }
+    ensures root { IfOk result (λ root. root.capacity ≡ size) }
+    ensures counts { IfOk result (λ root. 0 < counted member.new.account.counts root) }
+    ensures does { Does pool.now 6 (tries.allocated result) None member.old member.new }
+    ensures moves { member.new.account.moves ≡ member.old.account.moves }
+    ensures born { IfOk result (λ root. HasBorn pool.now root member.old.seat member.new.seat) }
+    ensures cause { IfErr result (λ no.
+        HasTryCause pool.now member.old member.new (as_try no)) }
+{
+    if try_settle(pool, member) {
+        return try_allocate_settled(pool, member, size, class, watch);
+    }
+    member.account.turns -= 6;
+    Err(seat_tries::AllocNo::Busy)
+}
+
+// The same of a thread that has nothing to put away.
+fn try_allocate_settled(
+    pool: &SharedPool,
+    member: &mut Member,
+    size: u32,
+    class: u32,
+    watch: Option<Watch>,
+) -> Result<RootId, seat_tries::AllocNo>
+    requires thread { IsThread pool.now member.old }
+    requires settled { IsSettled member.old }
+    requires turns { 6 ≤ member.old.account.turns }
+    requires class { class_of (geometry_of pool.now.table.layout.shape) size ≡ Some class }
+    ensures root { IfOk result (λ root. root.capacity ≡ size) }
+    ensures counts { IfOk result (λ root. 0 < counted member.new.account.counts root) }
+    ensures does { Does pool.now 6 (tries.allocated result) None member.old member.new }
+    ensures moves { member.new.account.moves ≡ member.old.account.moves }
+    ensures born { IfOk result (λ root. HasBorn pool.now root member.old.seat member.new.seat) }
+    ensures cause { IfErr result (tries.HasCause pool.now member.old.seat member.new.seat) }
+{
+    member.account.turns -= 6;
+    let (answer, left) = seat_tries::allocate(pool, &mut member.seat, size, class, watch);
+    keep(&mut member.pending, Pending::Tried(left));
+    match answer {
+        Ok(root) => {
+            member.account.counts.add(root);
+            Ok(root)
+        }
+        Err(no) => Err(no),
+    }
+}
