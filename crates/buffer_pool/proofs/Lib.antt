@@ -1,20 +1,3 @@
-mod CountLaws
-mod ToldLaws
-mod AloneLaws
-pub mod Letters
-pub mod Pendings
-pub mod Alone
-pub mod AloneLater
-pub mod Keeping
-pub mod Budgets
-pub mod MoveLaws
-pub mod Accessing
-pub mod Settling
-pub mod Asking
-pub mod Trims
 pub mod Named
-pub mod Passing
 pub mod Lones
-pub mod Lists
-pub mod Opened
-pub mod Ended
+mod Worked

@@ -13,18 +13,18 @@ use Rattle.shared_pool.specs.RootNotes.{IsSetOver}
 use Rattle.shared_pool.specs.SeatViews.{view_of as seat_view}
 use Rattle.seat_work.specs.Changes.{Change, no_change}
 use Rattle.shared_pool.specs.declared.pool.SharedPool.{SharedPool}
-use Rattle.buffer_pool.specs.declared.account.Account.{Account}
-use Rattle.buffer_pool.specs.declared.answers.AccessNo.{AccessNo}
-use Rattle.buffer_pool.specs.declared.answers.AccessNo.TheVariants as access
-use Rattle.buffer_pool.specs.declared.counts.Counted.{Counted}
-use Rattle.buffer_pool.specs.declared.member.Member.{Member}
-use Rattle.buffer_pool.specs.Alone.{laid_in, AreLaid, IsAlone, KeepsAlone, LaysOver}
-use Rattle.buffer_pool.specs.Counting.{counted, is_alone, known, told}
+use Rattle.pool_member.specs.declared.account.Account.{Account}
+use Rattle.pool_member.specs.declared.answers.AccessNo.{AccessNo}
+use Rattle.pool_member.specs.declared.answers.AccessNo.TheVariants as access
+use Rattle.pool_member.specs.declared.counts.Counted.{Counted}
+use Rattle.pool_member.specs.declared.member.Member.{Member}
+use Rattle.pool_member.specs.Alone.{laid_in, AreLaid, IsAlone, KeepsAlone, LaysOver}
+use Rattle.pool_member.specs.Counting.{counted, is_alone, known, told}
 use Rattle.buffer_pool.specs.Lones.{bytes_of, lone_no}
-use Rattle.buffer_pool.specs.Refusals.{is_here, part_no}
-use Rattle.buffer_pool.specs.Threads.{HasChanged, IsThread}
-use Rattle.buffer_pool.specs.Windows.{Window}
-use Rattle.buffer_pool.proofs.Alone.{not_none}
+use Rattle.pool_member.specs.Refusals.{is_here, part_no}
+use Rattle.pool_member.specs.Threads.{HasChanged, IsThread}
+use Rattle.pool_member.specs.Windows.{Window}
+use Rattle.pool_member.proofs.Alone.{not_none}
 
 -- ---- The first bytes of a list.
 
@@ -171,9 +171,10 @@ module _ (m : Member) (cs : List Counted) (root : RootId)
     if_owned None is = tt
     if_owned (Some pool) is = owned pool is
 
-  pub owned_changed : (turns : ℕ) (c : Change) (old : Member) → HasChanged turns c None old m
+  pub owned_changed : ((r : RootId) → is_alone m.account.counts r ≡ true → is_alone cs r ≡ true)
+      → (turns : ℕ) (c : Change) (old : Member) → HasChanged turns c None old m
       → HasChanged turns c None old owning
-  owned_changed turns c old x = record {
+  owned_changed owns turns c old x = record {
     number = x.number;
     spent = x.spent;
     counts = λ r. (let a = counts r in let b = x.counts r in omega (arith, a, b));
@@ -183,6 +184,7 @@ module _ (m : Member) (cs : List Counted) (root : RootId)
         subst (λ (n : ℕ). known old.account.counts r ≤ max r.capacity n) (sym (tells r))
         (x.knows r (subst (λ (n : ℕ). 0 < n) (counts r) lt));
     alone = x.alone;
+    owns = λ r lt none is. owns r (x.owns r lt none is);
   }
 
 -- ---- What calls on it answer, and leave.

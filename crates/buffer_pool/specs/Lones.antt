@@ -1,14 +1,14 @@
 -- A buffer that its thread alone has: what its bytes are, and why a call on it is refused.
 use Rattle.std.specs.Prelude.{ℕ, Bool, if◌then◌else◌, List, Option, Some}
 use Rattle.pool_law.specs.Roots.{bytes_at}
-use Rattle.buffer_pool.specs.declared.account.Account.{Account}
-use Rattle.buffer_pool.specs.declared.answers.AccessNo.{AccessNo}
-use Rattle.buffer_pool.specs.declared.answers.AccessNo.TheVariants.{NotHere}
-use Rattle.buffer_pool.specs.declared.member.Member.{Member}
-use Rattle.buffer_pool.specs.Alone.{laid_in}
-use Rattle.buffer_pool.specs.Counting.{is_alone}
-use Rattle.buffer_pool.specs.Refusals.{part_no}
-use Rattle.buffer_pool.specs.Windows.{Window}
+use Rattle.pool_member.specs.declared.account.Account.{Account}
+use Rattle.pool_member.specs.declared.answers.AccessNo.{AccessNo}
+use Rattle.pool_member.specs.declared.answers.AccessNo.TheVariants.{NotHere}
+use Rattle.pool_member.specs.declared.member.Member.{Member}
+use Rattle.pool_member.specs.Alone.{laid_in}
+use Rattle.pool_member.specs.Counting.{is_alone}
+use Rattle.pool_member.specs.Refusals.{part_no}
+use Rattle.pool_member.specs.Windows.{Window}
 
 -- its bytes, as the thread's own calls laid them
 abbrev pub bytes_of : Member → Window → List ℕ

@@ -16,7 +16,7 @@ pub struct Buffer<B: PoolName> {
 }
 
 impl<B: PoolName> Model for Buffer<B> {
-    ghost use Rattle.buffer_pool.specs.Windows.{Window};
+    ghost use Rattle.pool_member.specs.Windows.{Window};
 
     ghost Value = { Window };
 

@@ -1,24 +1,18 @@
 //! How a pool ends: closed, with what stands then, or abandoned.
 
-ghost use Rattle.std.specs.Prelude.{◌≡◌, ◌≤◌, [], All, IfErr, IfOk, IsTrue, ◌↔◌, map, vec_capacity, vec_len};
+ghost use Rattle.std.specs.Prelude.{◌≡◌, IfErr, IfOk};
 ghost use Rattle.size_classes.specs.Sizes.{below};
 ghost use Rattle.pool_law.specs.Legal.{ends_from};
 ghost use Rattle.shared_pool.specs.Closing.{logs_in};
 ghost use Rattle.shared_pool.specs.Live.{AreLiveRoots};
-ghost use Rattle.buffer_pool.specs.Closing.{AreAll, AreAllOf, MayRefuse, parts_of, rest_of};
-ghost use Rattle.buffer_pool.specs.Threads.{IsSettled, IsThread};
+ghost use Rattle.pool_member.specs.Closing.{AreAll, MayRefuse, parts_of};
 
-use crate::account::Account;
-use crate::answers::{CloseNo, Closed};
-use crate::member::Member;
 use crate::name::PoolName;
 use crate::pool::Pool;
 use crate::thread::PoolThread;
 use crate::threads::{members_of, threads_of};
-use crate::watcher::Watcher;
-use crate::work::settling::{is_nothing, nothing, spend};
-use shared_pool::{PoolSeat, SharedPool};
-use std::alloc::{AllocError, Global};
+use pool_member::{CloseNo, Closed, Room, close_all};
+use std::alloc::Global;
 use std::mem::ManuallyDrop;
 
 /// A pool that was not closed, and its threads.
@@ -41,20 +35,6 @@ impl<B: PoolName> NotClosed<B> {
         } = self;
         pool.abandon(threads);
     }
-}
-
-// What a thread has beside its seat.
-#[derive(Drop)]
-struct Rest {
-    account: Account,
-    watcher: Watcher,
-}
-
-// The memory for the close of a pool.
-struct Room {
-    members: Vec<Member>,
-    seats: Vec<PoolSeat>,
-    rests: Vec<Rest>,
 }
 
 impl<B: PoolName> Pool<B> {
@@ -114,149 +94,4 @@ impl<B: PoolName> Pool<B> {
         let _pool = unsafe { ManuallyDrop::new_unchecked(self) };
         let _threads = unsafe { ManuallyDrop::new_unchecked(threads) };
     }
-}
-
-impl Room {
-    fn take(alloc: Global, threads: usize) -> Result<Room, AllocError>
-        ensures empty { IfOk result (λ r. (r.members.items ≡ []) × (r.seats.items ≡ [])
-            × (r.rests.items ≡ [])) }
-        ensures room { IfOk result (λ r. (threads ≤ vec_capacity r.members)
-            × (threads ≤ vec_capacity r.seats) × (threads ≤ vec_capacity r.rests)) }
-    {
-        let rests = Vec::with_capacity(alloc, threads)?;
-        let members = Vec::with_capacity(alloc, threads)?;
-        let Ok(seats) = Vec::with_capacity(alloc, threads) else {
-            members.destroy_empty();
-            return Err(AllocError);
-        };
-        Ok(Room {
-            members,
-            seats,
-            rests,
-        })
-    }
-}
-
-// Closes the pool with these threads, if they are all, by number.
-fn close_all(
-    alloc: Global,
-    lanes: u32,
-    shared: SharedPool,
-    members: Vec<Member>,
-    seats: Vec<PoolSeat>,
-    rests: Vec<Rest>,
-) -> Result<Closed, (CloseNo, SharedPool, Vec<Member>)>
-    requires lanes { lanes ≡ shared.table.layout.shape.lanes }
-    requires members { All (IsThread shared) members.items }
-    requires empty { (seats.items ≡ []) × (rests.items ≡ []) }
-    requires room { (vec_len members ≤ vec_capacity seats)
-        × (vec_len members ≤ vec_capacity rests) }
-    ensures all { IfOk result (λ closed. AreAll shared members.items) }
-    ensures chunks { IfOk result (λ closed. let shape = shared.table.layout.shape in
-        closed.chunks ≡ ends_from shape (logs_in (parts_of members.items)) (below shape.arenas)) }
-    ensures leaks { IfOk result (λ closed. AreLiveRoots (parts_of members.items) closed.leaks) }
-    ensures cause { IfErr result (λ back. MayRefuse shared members.items back.0) }
-    ensures back { IfErr result (λ back.
-        (back.1 ≡ shared) × (back.2.items ≡ members.items)) }
-{
-    if !are_all(lanes, &members) {
-        seats.destroy_empty();
-        return Err((CloseNo::Threads, shared, members));
-    }
-    if !are_settled(&members) {
-        seats.destroy_empty();
-        return Err((CloseNo::Unsettled, shared, members));
-    }
-    let (seats, rests, members) = parted(members, seats, rests);
-    match shared.close(alloc, seats) {
-        Ok(end) => {
-            members.destroy_empty();
-            Ok(Closed {
-                chunks: end.chunks,
-                leaks: end.live,
-            })
-        }
-        Err((shared, seats)) => {
-            let members = joined(seats, rests, members);
-            Err((CloseNo::Memory, shared, members))
-        }
-    }
-}
-
-// Whether these are all threads, in the order of their numbers.
-fn are_all(lanes: u32, members: &[Member]) -> bool
-    ensures { IsTrue result ↔ AreAllOf lanes members.now }
-{
-    if members.len() != lanes as usize {
-        return false;
-    }
-    for lane in 0..lanes {
-        if members[lane as usize].account.lane != lane {
-            return false;
-        }
-    }
-    true
-}
-
-// Whether none of these threads has anything to put away.
-fn are_settled(members: &[Member]) -> bool
-    ensures { IsTrue result ↔ All IsSettled members.now }
-{
-    for member in members {
-        if !is_nothing(&member.pending) {
-            return false;
-        }
-    }
-    true
-}
-
-// The seats of these threads and the rest of each, and the list that had them, emptied.
-fn parted(
-    mut members: Vec<Member>,
-    mut seats: Vec<PoolSeat>,
-    mut rests: Vec<Rest>,
-) -> (Vec<PoolSeat>, Vec<Rest>, Vec<Member>)
-    requires settled { All IsSettled members.items }
-    requires empty { (seats.items ≡ []) × (rests.items ≡ []) }
-    requires room { (vec_len members ≤ vec_capacity seats)
-        × (vec_len members ≤ vec_capacity rests) }
-    ensures seats { result.0.items ≡ map (λ m. m.seat) members.items }
-    ensures rests { result.1.items ≡ map rest_of members.items }
-    ensures left { (result.2.items ≡ []) × (vec_len result.0 ≤ vec_capacity result.2) }
-{
-    for _made in 0..members.len() {
-        let Member {
-            seat,
-            account,
-            pending,
-            watcher,
-        } = members.remove(0);
-        spend(pending);
-        seats.push_reserved(seat);
-        rests.push_reserved(Rest { account, watcher });
-    }
-    (seats, rests, members)
-}
-
-// The threads with these seats and the rest of each, in a list with room for them.
-fn joined(mut seats: Vec<PoolSeat>, mut rests: Vec<Rest>, mut members: Vec<Member>) -> Vec<Member>
-    requires many { vec_len seats ≡ vec_len rests }
-    requires empty { members.items ≡ [] }
-    requires room { vec_len seats ≤ vec_capacity members }
-    ensures settled { All IsSettled result.items }
-    ensures seats { map (λ m. m.seat) result.items ≡ seats.items }
-    ensures rests { map rest_of result.items ≡ rests.items }
-{
-    for _made in 0..seats.len() {
-        let seat = seats.remove(0);
-        let Rest { account, watcher } = rests.remove(0);
-        members.push_reserved(Member {
-            seat,
-            account,
-            pending: nothing(),
-            watcher,
-        });
-    }
-    seats.destroy_empty();
-    members
 }

@@ -5,17 +5,17 @@ ghost use Rattle.std.specs.Fn.{FnOnceReturnsAt, FnOnceReturnsAtMut};
 ghost use Rattle.pool_law.specs.Roots.{bytes_at, laid_over};
 ghost use Rattle.pool_law.specs.Views.{in_range, view_of};
 ghost use Rattle.seat_work.specs.Changes.{no_change};
-ghost use Rattle.buffer_pool.specs.Alone.{IsAlone};
-ghost use Rattle.buffer_pool.specs.Counting.{is_alone};
-ghost use Rattle.buffer_pool.specs.declared.answers.AccessNo.TheVariants.{NotHere};
+ghost use Rattle.pool_member.specs.Alone.{IsAlone};
+ghost use Rattle.pool_member.specs.Counting.{is_alone};
+ghost use Rattle.pool_member.specs.declared.answers.AccessNo.TheVariants.{NotHere};
 ghost use Rattle.buffer_pool.specs.Lones.{bytes_of, lone_no};
-ghost use Rattle.buffer_pool.specs.Threads.{HasChanged};
+ghost use Rattle.pool_member.specs.Threads.{HasChanged};
 
-use crate::answers::AccessNo;
 use crate::buffer::Buffer;
 use crate::name::PoolName;
 use crate::pool::Pool;
 use crate::thread::PoolThread;
+use pool_member::AccessNo;
 use std::marker::Model;
 use std::sync::Wait;
 
@@ -30,7 +30,7 @@ pub struct Lone<B: PoolName> {
 impl<B: PoolName> Model for Lone<B> {
     ghost use Rattle.std.specs.Prelude.{◌≡◌};
     ghost use Rattle.pool_law.specs.Views.{view_of};
-    ghost use Rattle.buffer_pool.specs.Windows.{Window};
+    ghost use Rattle.pool_member.specs.Windows.{Window};
 
     ghost Value = { Window };
 

@@ -17,7 +17,7 @@ pub struct Parcel<B: PoolName> {
 impl<B: PoolName> Model for Parcel<B> {
     ghost use Rattle.std.specs.Prelude.{IfSome};
     ghost use Rattle.pool_table.specs.declared.views.Letter.{Letter};
-    ghost use Rattle.buffer_pool.specs.Windows.{IsParcelOf};
+    ghost use Rattle.pool_member.specs.Windows.{IsParcelOf};
 
     ghost Value = { Letter };
 

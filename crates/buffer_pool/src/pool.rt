@@ -17,7 +17,7 @@ pub struct Pool<B: PoolName> {
 
 impl<B: PoolName> Model for Pool<B> {
     ghost use Rattle.shared_pool.specs.declared.pool.SharedPool.{SharedPool};
-    ghost use Rattle.buffer_pool.specs.Threads.{IsPoolOf};
+    ghost use Rattle.buffer_pool.specs.Pools.{IsPoolOf};
 
     ghost Value = { SharedPool };
 

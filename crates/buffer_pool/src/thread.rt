@@ -2,8 +2,8 @@
 
 ghost use Rattle.std.specs.Prelude.{◌≡◌};
 
-use crate::member::Member;
 use crate::name::PoolName;
+use pool_member::Member;
 use std::marker::{Model, PhantomData};
 
 mod attempts;
@@ -27,8 +27,8 @@ pub struct PoolThread<B: PoolName> {
 
 impl<B: PoolName> Model for PoolThread<B> {
     ghost use Rattle.std.specs.Prelude.{IfSome};
-    ghost use Rattle.buffer_pool.specs.declared.member.Member.{Member};
-    ghost use Rattle.buffer_pool.specs.Threads.{IsThread};
+    ghost use Rattle.pool_member.specs.declared.member.Member.{Member};
+    ghost use Rattle.pool_member.specs.Threads.{IsThread};
 
     ghost Value = { Member };
 

@@ -1,11 +1,11 @@
 //! The threads of a pool as a list, under the pool's name and without it.
 
 ghost use Rattle.std.specs.Prelude.{◌≡◌, ◌≤◌, [], All, Some, vec_capacity, vec_len};
-ghost use Rattle.buffer_pool.specs.Threads.{IsThread};
+ghost use Rattle.pool_member.specs.Threads.{IsThread};
 
-use crate::member::Member;
 use crate::name::PoolName;
 use crate::thread::PoolThread;
+use pool_member::Member;
 use shared_pool::SharedPool;
 use std::marker::PhantomData;
 use std::mem::ManuallyDrop;

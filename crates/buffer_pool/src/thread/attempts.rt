@@ -8,20 +8,21 @@ ghost use Rattle.pool_law.specs.Limits.{geometry_of};
 ghost use Rattle.pool_law.specs.Views as views;
 ghost use Rattle.seat_work.specs.Changes.{once_less, once_more};
 ghost use Rattle.seat_work.specs.Works.{HasBorn};
-ghost use Rattle.buffer_pool.specs.Attempts.{as_try, HasTryCause, LeavesCounted, try_told, try_turns};
-ghost use Rattle.buffer_pool.specs.Refusals.{call_no, is_here};
-ghost use Rattle.buffer_pool.specs.Threads.{HasChanged, moves_after};
-ghost use Rattle.buffer_pool.specs.Tries.{IsTried};
+ghost use Rattle.pool_member.specs.Attempts.{as_try, HasTryCause, LeavesCounted, try_told, try_turns};
+ghost use Rattle.pool_member.specs.Refusals.{call_no, is_here};
+ghost use Rattle.pool_member.specs.Threads.{HasChanged, moves_after};
+ghost use Rattle.pool_member.specs.Tries.{IsTried};
 
-use crate::answers::{AllocNo, TryAllocNo, TryBack, TryNo};
+use crate::answers::TryBack;
 use crate::buffer::Buffer;
 use crate::name::PoolName;
 use crate::pool::Pool;
 use crate::thread::PoolThread;
 use crate::thread::buffers::{ALLOC_TURNS, RELEASE_TURNS};
-use crate::work::allocation::try_allocate;
-use crate::work::counting;
 use byte_view::View;
+use pool_member::work::allocation::try_allocate;
+use pool_member::work::counting;
+use pool_member::{AllocNo, TryAllocNo, TryNo};
 use std::marker::PhantomData;
 
 impl<B: PoolName> PoolThread<B> {
@@ -82,7 +83,7 @@ impl<B: PoolName> PoolThread<B> {
         ensures left { IfErr result (λ back. LeavesCounted pool.now self.old self.new back.why) }
     {
         let root = buffer.view.at.root;
-        if let Err(why) = self.member.account.may(&buffer, RELEASE_TURNS) {
+        if let Err(why) = buffer.may(&self.member.account, RELEASE_TURNS) {
             let why = TryNo::Refused(why);
             return Err(TryBack { why, buffer });
         }

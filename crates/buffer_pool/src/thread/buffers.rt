@@ -10,19 +10,20 @@ ghost use Rattle.pool_table.specs.Counts.{with_ref};
 ghost use Rattle.shared_pool.specs.SeatViews.{HasView, view_of};
 ghost use Rattle.seat_work.specs.Changes.{no_change, once_less, once_more};
 ghost use Rattle.seat_work.specs.Works.{HasBorn};
-ghost use Rattle.buffer_pool.specs.Answers.{alloc_told, alloc_turns, as_alloc, HasCause};
-ghost use Rattle.buffer_pool.specs.Counting.{counted, known};
-ghost use Rattle.buffer_pool.specs.Refusals.{call_no, is_here, part_no};
-ghost use Rattle.buffer_pool.specs.Threads.{HasChanged, moves_after};
+ghost use Rattle.pool_member.specs.Answers.{alloc_told, alloc_turns, as_alloc, HasCause};
+ghost use Rattle.pool_member.specs.Counting.{counted, known};
+ghost use Rattle.pool_member.specs.Refusals.{call_no, is_here, part_no};
+ghost use Rattle.pool_member.specs.Threads.{HasChanged, moves_after};
 
-use crate::answers::{AccessNo, AllocNo, Back};
+use crate::answers::Back;
 use crate::buffer::Buffer;
 use crate::name::PoolName;
 use crate::pool::Pool;
 use crate::thread::PoolThread;
-use crate::work::allocation::allocate;
-use crate::work::counting;
 use byte_view::View;
+use pool_member::work::allocation::allocate;
+use pool_member::work::counting;
+use pool_member::{AccessNo, AllocNo};
 use std::marker::PhantomData;
 use std::sync::Wait;
 
@@ -89,7 +90,7 @@ impl<B: PoolName> PoolThread<B> {
         ensures back { IfErr result (λ back. (back.buffer ≡ buffer) × (self.new ≡ self.old)) }
     {
         let root = buffer.view.at.root;
-        if let Err(why) = self.member.account.may(&buffer, RELEASE_TURNS) {
+        if let Err(why) = buffer.may(&self.member.account, RELEASE_TURNS) {
             return Err(Back { why, buffer });
         }
         buffer.leave();
@@ -110,7 +111,7 @@ impl<B: PoolName> PoolThread<B> {
         ensures moves { OnOk result (self.new.account.moves + 1 ≡ self.old.account.moves) }
         ensures unchanged { OnErr result (self.new ≡ self.old) }
     {
-        self.member.account.may_part(buffer, true, 1)?;
+        buffer.may_part(&self.member.account, true, 1)?;
         Ok(self.count_more(pool, buffer.view.duplicate()))
     }
 
@@ -135,7 +136,7 @@ impl<B: PoolName> PoolThread<B> {
         ensures unchanged { OnErr result (self.new ≡ self.old) }
     {
         let sliced = buffer.view.slice(start, len);
-        self.member.account.may_part(buffer, sliced.is_ok(), 1)?;
+        buffer.may_part(&self.member.account, sliced.is_ok(), 1)?;
         match sliced {
             Ok(view) => Ok(self.count_more(pool, view)),
             Err(_no) => Err(AccessNo::Range),
@@ -173,7 +174,7 @@ impl<B: PoolName> PoolThread<B> {
         ensures unchanged { OnErr result (self.new ≡ self.old) }
     {
         let root = buffer.view.at.root;
-        self.member.account.may(buffer, 0)?;
+        buffer.may(&self.member.account, 0)?;
         Ok(counting::look(&pool.shared, &mut self.member, root))
     }
 }

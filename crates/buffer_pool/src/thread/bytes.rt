@@ -10,18 +10,18 @@ ghost use Rattle.pool_law.specs.Views.{after_read, after_write, can_read, can_wr
 ghost use Rattle.shared_pool.specs.RootNotes.{access};
 ghost use Rattle.shared_pool.specs.Seats.{IsNoted};
 ghost use Rattle.seat_work.specs.Changes.{no_change};
-ghost use Rattle.buffer_pool.specs.Alone.{laid_in, AreLaid, IsAlone, LaysOver};
-ghost use Rattle.buffer_pool.specs.Counting.{counted, known};
-ghost use Rattle.buffer_pool.specs.Refusals.{call_no, part_no};
-ghost use Rattle.buffer_pool.specs.Threads.{HasChanged};
+ghost use Rattle.pool_member.specs.Alone.{laid_in, AreLaid, IsAlone, LaysOver};
+ghost use Rattle.pool_member.specs.Counting.{counted, known};
+ghost use Rattle.pool_member.specs.Refusals.{call_no, part_no};
+ghost use Rattle.pool_member.specs.Threads.{HasChanged};
 
-use crate::answers::AccessNo;
 use crate::buffer::Buffer;
 use crate::name::PoolName;
 use crate::pool::Pool;
 use crate::ranges::offset_of;
 use crate::thread::PoolThread;
-use crate::work::access;
+use pool_member::AccessNo;
+use pool_member::work::access;
 use std::sync::Wait;
 
 impl<B: PoolName> PoolThread<B> {
@@ -41,7 +41,7 @@ impl<B: PoolName> PoolThread<B> {
             × (1 ≤ self.now.account.turns)) }
     {
         let offset = offset_of(&buffer.view, start, len);
-        self.member.account.may_part(buffer, offset.is_some(), 0)?;
+        buffer.may_part(&self.member.account, offset.is_some(), 0)?;
         offset.ok_or(AccessNo::Range)
     }
 
@@ -167,7 +167,7 @@ impl<B: PoolName> PoolThread<B> {
     {
         let at = buffer.view.at;
         let inside = out.len() <= (at.writer - at.reader) as usize;
-        self.member.account.may_part(&*buffer, inside, 0)?;
+        buffer.may_part(&self.member.account, inside, 0)?;
         self.get(rt, pool, &*buffer, at.reader, out)?;
         let _moved = buffer.view.read_range(out.len() as u32);
         Ok(())
@@ -223,7 +223,7 @@ impl<B: PoolName> PoolThread<B> {
         ensures unchanged { OnErr result (self.new ≡ self.old) }
     {
         let root = buffer.view.at.root;
-        self.member.account.may(buffer, 1)?;
+        buffer.may(&self.member.account, 1)?;
         access::touch(rt, &pool.shared, &mut self.member, root);
         Ok(())
     }

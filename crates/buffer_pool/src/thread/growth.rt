@@ -5,19 +5,19 @@ ghost use Rattle.pool_law.specs.Limits.{geometry_of};
 ghost use Rattle.pool_law.specs.Views.{reaching, LiesIn};
 ghost use Rattle.seat_work.specs.Changes.{no_change};
 ghost use Rattle.seat_work.specs.Regrowths.{IsTold};
-ghost use Rattle.buffer_pool.specs.Alone.{GrowsAlone};
-ghost use Rattle.buffer_pool.specs.Growths.{IsTriedBy, LeavesAsked};
-ghost use Rattle.buffer_pool.specs.Refusals.{is_here};
-ghost use Rattle.buffer_pool.specs.Regrowths.{capacity_no, IsRefusedBy, LeavesThread};
-ghost use Rattle.buffer_pool.specs.Threads.{HasChanged};
+ghost use Rattle.pool_member.specs.Alone.{GrowsAlone};
+ghost use Rattle.pool_member.specs.Growths.{IsTriedBy, LeavesAsked};
+ghost use Rattle.pool_member.specs.Refusals.{is_here};
+ghost use Rattle.pool_member.specs.Regrowths.{capacity_no, IsRefusedBy, LeavesThread};
+ghost use Rattle.pool_member.specs.Threads.{HasChanged};
 
-use crate::answers::{CapacityNo, TryCapacityNo};
 use crate::buffer::Buffer;
 use crate::name::PoolName;
 use crate::pool::Pool;
 use crate::thread::PoolThread;
-use crate::work::attempted::AskNo;
-use crate::work::growth;
+use pool_member::work::attempted::AskNo;
+use pool_member::work::growth;
+use pool_member::{CapacityNo, TryCapacityNo};
 use seat_work::GrowNo;
 use std::sync::Wait;
 
@@ -56,7 +56,7 @@ impl<B: PoolName> PoolThread<B> {
             (LeavesThread buffer.old.at.root self.old self.new) }
         ensures unchanged { OnErr result (buffer.new ≡ buffer.old) }
     {
-        if !self.member.account.is_here(&*buffer) {
+        if !buffer.is_here(&self.member.account) {
             return Err(CapacityNo::NotHere);
         }
         let Some(class) = pool.sizes.class_of(size) else {
@@ -101,7 +101,7 @@ impl<B: PoolName> PoolThread<B> {
             (LeavesAsked pool.now buffer.old.at.root self.old self.new) }
         ensures unchanged { OnErr result (buffer.new ≡ buffer.old) }
     {
-        if !self.member.account.is_here(&*buffer) {
+        if !buffer.is_here(&self.member.account) {
             return Err(TryCapacityNo::Refused(CapacityNo::NotHere));
         }
         let Some(class) = pool.sizes.class_of(size) else {

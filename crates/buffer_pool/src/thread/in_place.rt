@@ -7,17 +7,17 @@ ghost use Rattle.pool_law.specs.declared.note.Object.TheVariants.{Root};
 ghost use Rattle.pool_law.specs.Views.{in_range, root_index};
 ghost use Rattle.shared_pool.specs.RootNotes.{IsSetOver};
 ghost use Rattle.seat_work.specs.Changes.{no_change};
-ghost use Rattle.buffer_pool.specs.Alone.{LaysOver};
-ghost use Rattle.buffer_pool.specs.Refusals.{part_no};
-ghost use Rattle.buffer_pool.specs.Threads.{HasChanged};
-ghost use Rattle.buffer_pool.specs.Tries.{IsTried, Leaves};
+ghost use Rattle.pool_member.specs.Alone.{LaysOver};
+ghost use Rattle.pool_member.specs.Refusals.{part_no};
+ghost use Rattle.pool_member.specs.Threads.{HasChanged};
+ghost use Rattle.pool_member.specs.Tries.{IsTried, Leaves};
 
-use crate::answers::{AccessNo, TryNo};
 use crate::buffer::Buffer;
 use crate::name::PoolName;
 use crate::pool::Pool;
 use crate::thread::PoolThread;
-use crate::work::in_place;
+use pool_member::work::in_place;
+use pool_member::{AccessNo, TryNo};
 use std::sync::Wait;
 
 impl<B: PoolName> PoolThread<B> {

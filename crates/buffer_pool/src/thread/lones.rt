@@ -6,17 +6,17 @@ ghost use Rattle.pool_law.specs.Limits.{geometry_of};
 ghost use Rattle.pool_law.specs.Views as views;
 ghost use Rattle.seat_work.specs.Changes.{once_more};
 ghost use Rattle.seat_work.specs.Works.{HasBorn};
-ghost use Rattle.buffer_pool.specs.Answers.{alloc_told, alloc_turns, HasCause};
-ghost use Rattle.buffer_pool.specs.Counting.{is_alone};
+ghost use Rattle.pool_member.specs.Answers.{alloc_told, alloc_turns, HasCause};
+ghost use Rattle.pool_member.specs.Counting.{is_alone};
 ghost use Rattle.buffer_pool.specs.Lones.{bytes_of};
-ghost use Rattle.buffer_pool.specs.Refusals.{is_here};
-ghost use Rattle.buffer_pool.specs.Threads.{HasChanged};
+ghost use Rattle.pool_member.specs.Refusals.{is_here};
+ghost use Rattle.pool_member.specs.Threads.{HasChanged};
 
-use crate::answers::AllocNo;
 use crate::lone::Lone;
 use crate::name::PoolName;
 use crate::pool::Pool;
 use crate::thread::PoolThread;
+use pool_member::AllocNo;
 use std::sync::Wait;
 
 impl<B: PoolName> PoolThread<B> {

@@ -4,17 +4,18 @@ ghost use Rattle.std.specs.Prelude.{◌≡◌, [], ◌∷◌, IfOk, IfErr, IsTru
 ghost use Rattle.pool_table.specs.Letters.{next_letter};
 ghost use Rattle.shared_pool.specs.SeatViews.{view_of};
 ghost use Rattle.seat_work.specs.Changes.{no_change, once_more};
-ghost use Rattle.buffer_pool.specs.Refusals.{accept_no, as_part, is_here, send_no};
-ghost use Rattle.buffer_pool.specs.Threads.{HasChanged};
+ghost use Rattle.pool_member.specs.Refusals.{accept_no, as_part, is_here, send_no};
+ghost use Rattle.pool_member.specs.Threads.{HasChanged};
 
-use crate::answers::{AccessNo, NotAccepted, PartNo, Unsent};
+use crate::answers::{NotAccepted, Unsent};
 use crate::buffer::Buffer;
 use crate::name::PoolName;
 use crate::parcel::Parcel;
 use crate::pool::Pool;
 use crate::thread::PoolThread;
-use crate::work::passing;
 use byte_view::View;
+use pool_member::work::passing;
+use pool_member::{AccessNo, PartNo};
 use std::marker::PhantomData;
 
 impl<B: PoolName> PoolThread<B> {
@@ -43,7 +44,7 @@ impl<B: PoolName> PoolThread<B> {
             let why = PartNo::NoThread;
             return Err(Unsent { why, buffer });
         }
-        if let Err(no) = self.member.account.may(&buffer, 1) {
+        if let Err(no) = buffer.may(&self.member.account, 1) {
             let why = part_no(no);
             return Err(Unsent { why, buffer });
         }

@@ -3,12 +3,12 @@
 ghost use Rattle.std.specs.Prelude.{◌≡◌, ◌↔◌, false, IsTrue, None};
 ghost use Rattle.seat_work.specs.Changes.{no_change};
 ghost use Rattle.seat_tries.specs.Leaving.{MeetsOther};
-ghost use Rattle.buffer_pool.specs.Threads.{HasChanged, IsSettled};
+ghost use Rattle.pool_member.specs.Threads.{HasChanged, IsSettled};
 
 use crate::name::PoolName;
 use crate::pool::Pool;
 use crate::thread::PoolThread;
-use crate::work::settling;
+use pool_member::work::settling;
 use std::sync::Wait;
 
 impl<B: PoolName> PoolThread<B> {

@@ -11,17 +11,17 @@ ghost use Rattle.pool_law.specs.Views.{after_read, after_write, can_read, can_wr
 ghost use Rattle.shared_pool.specs.RootNotes.{access};
 ghost use Rattle.shared_pool.specs.Seats.{IsNoted};
 ghost use Rattle.seat_work.specs.Changes.{no_change};
-ghost use Rattle.buffer_pool.specs.Alone.{laid_in, AreLaid, IsAlone, LaysOver};
-ghost use Rattle.buffer_pool.specs.Refusals.{call_no, part_no};
-ghost use Rattle.buffer_pool.specs.Threads.{HasChanged};
-ghost use Rattle.buffer_pool.specs.Tries.{IsTried, Leaves};
+ghost use Rattle.pool_member.specs.Alone.{laid_in, AreLaid, IsAlone, LaysOver};
+ghost use Rattle.pool_member.specs.Refusals.{call_no, part_no};
+ghost use Rattle.pool_member.specs.Threads.{HasChanged};
+ghost use Rattle.pool_member.specs.Tries.{IsTried, Leaves};
 
-use crate::answers::TryNo;
 use crate::buffer::Buffer;
 use crate::name::PoolName;
 use crate::pool::Pool;
 use crate::thread::PoolThread;
-use crate::work::access;
+use pool_member::TryNo;
+use pool_member::work::access;
 
 impl<B: PoolName> PoolThread<B> {
     /// Tries to lay bytes over those of a buffer, from `start` on.
@@ -148,7 +148,7 @@ impl<B: PoolName> PoolThread<B> {
     {
         let at = buffer.view.at;
         let inside = out.len() <= (at.writer - at.reader) as usize;
-        self.member.account.may_part(&*buffer, inside, 0)?;
+        buffer.may_part(&self.member.account, inside, 0)?;
         self.try_get(pool, &*buffer, at.reader, out)?;
         let _moved = buffer.view.read_range(out.len() as u32);
         Ok(())
@@ -206,7 +206,7 @@ impl<B: PoolName> PoolThread<B> {
             IfErr result (Leaves pool.now o self.old self.new) }
     {
         let root = buffer.view.at.root;
-        self.member.account.may(buffer, 1)?;
+        buffer.may(&self.member.account, 1)?;
         if !access::try_touch(&pool.shared, &mut self.member, root) {
             return Err(TryNo::Busy);
         }

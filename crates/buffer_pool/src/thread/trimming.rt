@@ -3,14 +3,14 @@
 ghost use Rattle.std.specs.Prelude.{◌≡◌, ◌-◌, ◌<◌, IfErr, None, OnErr, OnOk};
 ghost use Rattle.pool_law.specs.Limits.{cached_classes};
 ghost use Rattle.seat_work.specs.Changes.{no_change};
-ghost use Rattle.buffer_pool.specs.Threads.{HasChanged, IsSettled};
-ghost use Rattle.buffer_pool.specs.Trims.{AreEmpty, MayStop};
+ghost use Rattle.pool_member.specs.Threads.{HasChanged, IsSettled};
+ghost use Rattle.pool_member.specs.Trims.{AreEmpty, MayStop};
 
-use crate::answers::{TrimNo, TryTrimNo};
 use crate::name::PoolName;
 use crate::pool::Pool;
 use crate::thread::PoolThread;
-use crate::work::trimming;
+use pool_member::work::trimming;
+use pool_member::{TrimNo, TryTrimNo};
 use std::sync::Wait;
 
 impl<B: PoolName> PoolThread<B> {

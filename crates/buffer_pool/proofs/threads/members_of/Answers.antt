@@ -1,8 +1,8 @@
 use Rattle.std.proofs.Common.{◌≡◌, ◌<◌, [], ◌∷◌, ◌++◌, length, sym, ap, ◌∙◌, subst, arith}
 use Rattle.std.specs.Prelude.{All, slice_index_or}
-use Rattle.buffer_pool.specs.declared.member.Member.{Member}
-use Rattle.buffer_pool.specs.Threads.{IsThread}
-use Rattle.buffer_pool.proofs.Lists.{all_passed, all_pushed, passes_on}
+use Rattle.pool_member.specs.declared.member.Member.{Member}
+use Rattle.pool_member.specs.Threads.{IsThread}
+use Rattle.pool_member.proofs.Lists.{all_passed, all_pushed, passes_on}
 use Rattle.buffer_pool.proofs.Named.{of_named}
 use Rattle.buffer_pool.proofs.threads.members_of.Goals as goal
 

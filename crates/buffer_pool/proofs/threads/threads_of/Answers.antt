@@ -1,7 +1,7 @@
 use Rattle.std.proofs.Common.{◌<◌, [], ◌∷◌, ◌++◌, length, sym, ap, ◌∙◌, subst, arith}
 use Rattle.std.specs.Prelude.{All}
-use Rattle.buffer_pool.specs.Threads.{IsThread}
-use Rattle.buffer_pool.proofs.Lists.{all_rest, passes_on}
+use Rattle.pool_member.specs.Threads.{IsThread}
+use Rattle.pool_member.proofs.Lists.{all_rest, passes_on}
 use Rattle.buffer_pool.proofs.threads.threads_of.Goals as goal
 
 pub loop-made-preserved : goal.loop-made-preserved

@@ -1,6 +1,6 @@
 use Rattle.std.proofs.Common.{◌≡◌, ◌+◌, ◌++◌, ◌≤◌, vec_len, vec_capacity}
 use Rattle.std.specs.Prelude.{All}
-use Rattle.buffer_pool.specs.Threads.{IsThread}
+use Rattle.pool_member.specs.Threads.{IsThread}
 use Rattle.buffer_pool.proofs.threads.threads_of.Given as goal
 
 abbrev pub invariant-loop-made : goal.invariant-loop-made

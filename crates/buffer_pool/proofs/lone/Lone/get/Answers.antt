@@ -2,10 +2,10 @@ use Rattle.std.proofs.Common.{◌≡◌, true, length, sym, subst}
 use Rattle.std.specs.Prelude.{MatchResult, None, OnOk, Some}
 use Rattle.pool_law.specs.Roots.{bytes_at}
 use Rattle.pool_law.specs.Views.{in_range, view_of}
-use Rattle.buffer_pool.specs.Alone.{IsAlone}
-use Rattle.buffer_pool.specs.Counting.{is_alone}
+use Rattle.pool_member.specs.Alone.{IsAlone}
+use Rattle.pool_member.specs.Counting.{is_alone}
 use Rattle.buffer_pool.specs.Lones.{bytes_of, lone_no}
-use Rattle.buffer_pool.specs.Windows.{Window}
+use Rattle.pool_member.specs.Windows.{Window}
 use Rattle.buffer_pool.proofs.Lones.{if_got, if_same, if_still, lone_answers}
 use Rattle.buffer_pool.proofs.lone.Lone.get.Goals as goal
 

@@ -1,9 +1,9 @@
 use Rattle.std.proofs.Common.{◌≡◌, rules, true, subst}
 use Rattle.std.specs.Prelude.{IfSome, Option}
 use Rattle.shared_pool.specs.declared.pool.SharedPool.{SharedPool}
-use Rattle.buffer_pool.specs.declared.member.Member.{Member}
-use Rattle.buffer_pool.specs.Counting.{is_alone}
-use Rattle.buffer_pool.specs.Threads.{IsThread}
+use Rattle.pool_member.specs.declared.member.Member.{Member}
+use Rattle.pool_member.specs.Counting.{is_alone}
+use Rattle.pool_member.specs.Threads.{IsThread}
 use Rattle.buffer_pool.proofs.lone.Lone.is_of.Goals as goal
 
 pub returns-then-is_alone-clause-alone : goal.returns-then-is_alone-clause-alone

@@ -1,8 +1,8 @@
 use Rattle.std.proofs.Common.{List, sym, subst}
 use Rattle.std.specs.Prelude.{All}
 use Rattle.shared_pool.specs.declared.pool.SharedPool.{SharedPool}
-use Rattle.buffer_pool.specs.declared.member.Member.{Member}
-use Rattle.buffer_pool.specs.Threads.{IsThread}
+use Rattle.pool_member.specs.declared.member.Member.{Member}
+use Rattle.pool_member.specs.Threads.{IsThread}
 use Rattle.buffer_pool.proofs.pool.Pool.close.Goals as goal
 
 pub threads_of-threads-requires-clause-members : goal.threads_of-threads-requires-clause-members

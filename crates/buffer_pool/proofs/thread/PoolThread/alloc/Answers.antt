@@ -4,10 +4,10 @@ use Rattle.seat_work.specs.declared.allocation.AllocNo.{AllocNo as WorkNo}
 use Rattle.seat_work.specs.declared.allocation.AllocNo.TheVariants as work
 use Rattle.seat_work.specs.Answers.{allocated}
 use Rattle.seat_work.specs.Changes.{once_more}
-use Rattle.buffer_pool.specs.declared.answers.AllocNo.{AllocNo}
-use Rattle.buffer_pool.specs.declared.member.Member.{Member}
-use Rattle.buffer_pool.specs.Answers.{alloc_told, alloc_turns, as_alloc}
-use Rattle.buffer_pool.specs.Threads.{HasChanged}
+use Rattle.pool_member.specs.declared.answers.AllocNo.{AllocNo}
+use Rattle.pool_member.specs.declared.member.Member.{Member}
+use Rattle.pool_member.specs.Answers.{alloc_told, alloc_turns, as_alloc}
+use Rattle.pool_member.specs.Threads.{HasChanged}
 use Rattle.buffer_pool.proofs.thread.PoolThread.alloc.Goals as goal
 use Rattle.buffer_pool.proofs.thread.PoolThread.alloc.Goals.{in-Ok, in-Err}
 

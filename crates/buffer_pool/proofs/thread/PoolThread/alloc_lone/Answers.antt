@@ -1,12 +1,12 @@
 use Rattle.std.proofs.Common.{None, sym, ◌∙◌, subst}
 use Rattle.std.specs.Prelude.{IsTrue}
 use Rattle.seat_work.specs.Changes.{once_more}
-use Rattle.buffer_pool.specs.declared.member.Member.{Member}
-use Rattle.buffer_pool.specs.Alone.{IsAlone}
-use Rattle.buffer_pool.specs.Counting.{is_alone}
-use Rattle.buffer_pool.specs.Refusals.{is_here}
-use Rattle.buffer_pool.specs.Threads.{HasChanged}
-use Rattle.buffer_pool.specs.Windows.{Window}
+use Rattle.pool_member.specs.declared.member.Member.{Member}
+use Rattle.pool_member.specs.Alone.{IsAlone}
+use Rattle.pool_member.specs.Counting.{is_alone}
+use Rattle.pool_member.specs.Refusals.{is_here}
+use Rattle.pool_member.specs.Threads.{HasChanged}
+use Rattle.pool_member.specs.Windows.{Window}
 use Rattle.buffer_pool.proofs.Lones.{here_same, if_owned, owned_changed}
 use Rattle.buffer_pool.proofs.thread.PoolThread.alloc_lone.Goals as goal
 
@@ -30,5 +30,5 @@ pub returns-in-Ok-clause-changed : goal.returns-in-Ok-clause-changed
 returns-in-Ok-clause-changed g c =
     let m : Member = c.self.inside.member in let change = once_more c.in-Ok.buffer.at.root in
     let own = c.own.ensures in
-    owned_changed m c.own.new.self c.buffer.inside.view.at.root own.counts own.tells 6 change c.args.self.now
+    owned_changed m c.own.new.self c.buffer.inside.view.at.root own.counts own.tells own.owns 6 change c.args.self.now
     (subst (λ (m : Member). HasChanged 6 change None c.args.self.now m) (sym c.self.view_is) c.in-Ok.ensures.changed)

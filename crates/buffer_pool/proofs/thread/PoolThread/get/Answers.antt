@@ -2,11 +2,11 @@ use Rattle.std.proofs.Common.{◌≡◌, Bool, None, subst}
 use Rattle.std.specs.Prelude.{MatchBool}
 use Rattle.pool_law.specs.declared.note.Did.{Did}
 use Rattle.seat_work.specs.Changes.{no_change}
-use Rattle.buffer_pool.specs.declared.member.Member.{Member}
-use Rattle.buffer_pool.specs.Alone.{AreLaid}
-use Rattle.buffer_pool.specs.Threads.{HasChanged}
-use Rattle.buffer_pool.specs.Tries.{HasAccessed, StaysOut}
-use Rattle.buffer_pool.proofs.Accessing.{changed_out}
+use Rattle.pool_member.specs.declared.member.Member.{Member}
+use Rattle.pool_member.specs.Alone.{AreLaid}
+use Rattle.pool_member.specs.Threads.{HasChanged}
+use Rattle.pool_member.specs.Tries.{HasAccessed, StaysOut}
+use Rattle.pool_member.proofs.Accessing.{changed_out}
 use Rattle.buffer_pool.proofs.thread.PoolThread.get.Goals as goal
 use Rattle.buffer_pool.proofs.thread.PoolThread.get.Goals.{then-not-try_get, else-not-try_get}
 

@@ -2,12 +2,12 @@ use Rattle.std.proofs.Common.{Bool, Some, subst}
 use Rattle.std.specs.Prelude.{MatchBool}
 use Rattle.pool_law.specs.declared.note.Did.{Did}
 use Rattle.seat_work.specs.Changes.{no_change}
-use Rattle.buffer_pool.specs.declared.member.Member.{Member}
-use Rattle.buffer_pool.specs.Alone.{LaysOver}
-use Rattle.buffer_pool.specs.Threads.{HasChanged}
-use Rattle.buffer_pool.specs.Tries.{HasAccessed, StaysOut}
-use Rattle.buffer_pool.specs.Windows.{Window}
-use Rattle.buffer_pool.proofs.Accessing.{changed_out}
+use Rattle.pool_member.specs.declared.member.Member.{Member}
+use Rattle.pool_member.specs.Alone.{LaysOver}
+use Rattle.pool_member.specs.Threads.{HasChanged}
+use Rattle.pool_member.specs.Tries.{HasAccessed, StaysOut}
+use Rattle.pool_member.specs.Windows.{Window}
+use Rattle.pool_member.proofs.Accessing.{changed_out}
 use Rattle.buffer_pool.proofs.thread.PoolThread.set.Goals as goal
 use Rattle.buffer_pool.proofs.thread.PoolThread.set.Goals.{then-not-try_set, else-not-try_set}
 

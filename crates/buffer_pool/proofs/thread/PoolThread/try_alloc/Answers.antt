@@ -4,11 +4,11 @@ use Rattle.seat_work.specs.Changes.{Change}
 use Rattle.seat_tries.specs.declared.allocation.AllocNo.{AllocNo as WorkNo}
 use Rattle.seat_tries.specs.declared.allocation.AllocNo.TheVariants as work
 use Rattle.seat_tries.specs.Allocations.{allocated}
-use Rattle.buffer_pool.specs.declared.answers.TryAllocNo.{TryAllocNo}
-use Rattle.buffer_pool.specs.declared.member.Member.{Member}
-use Rattle.buffer_pool.specs.declared.watcher.Watcher.{Watcher}
-use Rattle.buffer_pool.specs.Attempts.{as_try, HasTryCause, try_told, try_turns}
-use Rattle.buffer_pool.specs.Threads.{HasChanged}
+use Rattle.pool_member.specs.declared.answers.TryAllocNo.{TryAllocNo}
+use Rattle.pool_member.specs.declared.member.Member.{Member}
+use Rattle.pool_member.specs.declared.watcher.Watcher.{Watcher}
+use Rattle.pool_member.specs.Attempts.{as_try, HasTryCause, try_told, try_turns}
+use Rattle.pool_member.specs.Threads.{HasChanged}
 use Rattle.buffer_pool.proofs.thread.PoolThread.try_alloc.Goals as goal
 
 -- a change is one of the thread whatever its watcher is, before and after
@@ -22,6 +22,7 @@ changed_as turns c old new before after x = record {
   notes = x.notes;
   knows = x.knows;
   alone = x.alone;
+  owns = x.owns;
 }
 
 -- a refusal of the work tells as much as this crate's

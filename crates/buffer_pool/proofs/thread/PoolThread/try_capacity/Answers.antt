@@ -1,13 +1,13 @@
 use Rattle.std.proofs.Common.{Err, Some, subst}
 use Rattle.shared_pool.specs.declared.pool.SharedPool.{SharedPool}
-use Rattle.buffer_pool.specs.declared.answers.CapacityNo.TheVariants.{Full}
-use Rattle.buffer_pool.specs.declared.answers.TryCapacityNo.{TryCapacityNo}
-use Rattle.buffer_pool.specs.declared.answers.TryCapacityNo.TheVariants.{Busy, Refused}
-use Rattle.buffer_pool.specs.declared.member.Member.{Member}
-use Rattle.buffer_pool.specs.declared.work.attempted.AskNo.{AskNo}
-use Rattle.buffer_pool.specs.Growths.{asked, LeavesAsked, MayRefuseAsked}
-use Rattle.buffer_pool.specs.Threads.{HasChanged}
-use Rattle.buffer_pool.specs.Windows.{Window}
+use Rattle.pool_member.specs.declared.answers.CapacityNo.TheVariants.{Full}
+use Rattle.pool_member.specs.declared.answers.TryCapacityNo.{TryCapacityNo}
+use Rattle.pool_member.specs.declared.answers.TryCapacityNo.TheVariants.{Busy, Refused}
+use Rattle.pool_member.specs.declared.member.Member.{Member}
+use Rattle.pool_member.specs.declared.work.attempted.AskNo.{AskNo}
+use Rattle.pool_member.specs.Growths.{asked, LeavesAsked, MayRefuseAsked}
+use Rattle.pool_member.specs.Threads.{HasChanged}
+use Rattle.pool_member.specs.Windows.{Window}
 use Rattle.buffer_pool.proofs.thread.PoolThread.try_capacity.Goals as goal
 use Rattle.buffer_pool.proofs.thread.PoolThread.try_capacity.Goals.{in-Ok, in-Err-Busy, in-Err-Full}
 

@@ -1,9 +1,9 @@
 use Rattle.std.proofs.Common.{subst}
 use Rattle.shared_pool.specs.declared.pool.SharedPool.{SharedPool}
-use Rattle.buffer_pool.specs.declared.answers.TryNo.TheVariants.{Busy}
-use Rattle.buffer_pool.specs.declared.member.Member.{Member}
-use Rattle.buffer_pool.specs.Attempts.{LeavesCounted}
-use Rattle.buffer_pool.proofs.Settling.{same_account, settled}
+use Rattle.pool_member.specs.declared.answers.TryNo.TheVariants.{Busy}
+use Rattle.pool_member.specs.declared.member.Member.{Member}
+use Rattle.pool_member.specs.Attempts.{LeavesCounted}
+use Rattle.pool_member.proofs.Settling.{same_account, settled}
 use Rattle.buffer_pool.proofs.thread.PoolThread.try_release.Goals as goal
 use Rattle.buffer_pool.proofs.thread.PoolThread.try_release.Goals.{in-Some, in-None}
 

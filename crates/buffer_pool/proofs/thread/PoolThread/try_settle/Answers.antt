@@ -1,8 +1,8 @@
 use Rattle.std.proofs.Common.{None, subst}
 use Rattle.seat_work.specs.Changes.{no_change}
-use Rattle.buffer_pool.specs.declared.member.Member.{Member}
-use Rattle.buffer_pool.specs.Threads.{HasChanged}
-use Rattle.buffer_pool.proofs.Settling.{settled}
+use Rattle.pool_member.specs.declared.member.Member.{Member}
+use Rattle.pool_member.specs.Threads.{HasChanged}
+use Rattle.pool_member.proofs.Settling.{settled}
 use Rattle.buffer_pool.proofs.thread.PoolThread.try_settle.Goals as goal
 
 pub returns-clause-changed : goal.returns-clause-changed

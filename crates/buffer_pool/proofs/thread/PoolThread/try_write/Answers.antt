@@ -1,7 +1,7 @@
 use Rattle.std.proofs.Common.{subst}
 use Rattle.pool_law.specs.Views.{root_index}
-use Rattle.buffer_pool.specs.Alone.{LaysOver}
-use Rattle.buffer_pool.specs.Windows.{Window}
+use Rattle.pool_member.specs.Alone.{LaysOver}
+use Rattle.pool_member.specs.Windows.{Window}
 use Rattle.buffer_pool.proofs.thread.PoolThread.try_write.Goals as goal
 
 pub returns-clause-laid : goal.returns-clause-laid

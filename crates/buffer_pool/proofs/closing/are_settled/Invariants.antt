@@ -1,7 +1,0 @@
-use Rattle.std.proofs.Common.{ℕ, ◌<◌, get_or}
-use Rattle.buffer_pool.specs.declared.member.Member.{Member}
-use Rattle.buffer_pool.specs.Threads.{IsSettled}
-use Rattle.buffer_pool.proofs.closing.are_settled.Given as goal
-
-abbrev pub invariant-loop-member : goal.invariant-loop-member
-invariant-loop-member l = (k : ℕ) (d : Member) → k < l.member-index → IsSettled (get_or l.members k d)

@@ -1,6 +1,0 @@
-use Rattle.std.proofs.Common.{◌≡◌, length}
-use Rattle.buffer_pool.proofs.Accessing.{Waits}
-use Rattle.buffer_pool.proofs.work.access.wait_to_get.Given as goal
-
-abbrev pub invariant-loop : goal.invariant-loop
-invariant-loop g l = Waits l.pool l.fn.member l.member × (length l.out ≡ length l.fn.out)

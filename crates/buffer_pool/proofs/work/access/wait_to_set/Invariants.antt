@@ -1,5 +1,0 @@
-use Rattle.buffer_pool.proofs.Accessing.{Waits}
-use Rattle.buffer_pool.proofs.work.access.wait_to_set.Given as goal
-
-abbrev pub invariant-loop : goal.invariant-loop
-invariant-loop g l = Waits l.pool l.fn.member l.member

@@ -1,6 +1,0 @@
-use Rattle.std.proofs.Common.{◌≡◌}
-use Rattle.buffer_pool.proofs.Accessing.{Waits}
-use Rattle.buffer_pool.proofs.work.access.with_bytes.Given as goal
-
-abbrev pub invariant-loop : goal.invariant-loop
-invariant-loop g l = Waits l.pool l.fn.member l.member × (l.f ≡ l.fn.f)

@@ -1,5 +1,0 @@
-use Rattle.buffer_pool.specs.Threads.{Settles}
-use Rattle.buffer_pool.proofs.work.settling.wait_to_settle.Given as goal
-
-abbrev pub invariant-loop : goal.invariant-loop
-invariant-loop g l = Settles l.pool l.fn.member l.member
