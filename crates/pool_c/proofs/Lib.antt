@@ -1,0 +1,15 @@
+pub mod SlotValues
+pub mod Values
+pub mod CallLaws
+pub mod Places
+pub mod Placed
+pub mod Shares
+pub mod ParcelSlotValues
+pub mod Closed
+pub mod Passed
+pub mod Unboxed
+pub mod Allocated
+pub mod Released
+pub mod Ended
+pub mod Grown
+pub mod Parted

@@ -1,0 +1,43 @@
+-- The machine values of a `Slot`. Assumes `Logic`.
+use Rattle.std.proofs.Common.{◌≡◌, List, [], ◌∷◌, ◌++◌, refl, sym, ap, ◌∙◌, lit<, true≢false}
+use Rattle.std.specs.Prelude.{Option, Some, None, IsSome}
+use seplogic.Ra.Ura.{Ura}
+use mir.Syntax.{ty_ptr}
+use mir.Val.{Val, vstruct, vcons, vnil, of_list}
+use base.Logic.{ent, emp}
+use types.Logic.{Logic, sem}
+use denote.RattleType.{RattleType}
+use denote.Laws.{Is}
+use denote.RawPtr.{Ptr, block_ptr, null_ptr, ptr_val}
+use denote.Shadow.{makes_shadow}
+use denote.Struct.Struct.{Struct}
+use denote.Struct.Owning.{shape}
+use Rattle.core.proofs.cell.Inside.{Good}
+use Rattle.pool_c.specs.contracts.slot.Slot as slot
+
+abbrev pub word : Ptr → Val
+word p = vstruct (vcons (ptr_val p) vnil)
+
+abbrev pub Data : RattleType
+Data = Struct (shape slot.the_type)
+
+pub told : (p : Ptr) (vs : List Val) → Is Data (p, tt) vs → vs ≡ word p ∷ []
+told p vs is = is.1.0 ∙ ap (λ (ws : List Val). vstruct (of_list (ws ++ [])) ∷ []) is.1.1.0
+
+pub made : {M : Type 1} {𝓤 : Ura M} (𝓛 : Logic 𝓤) (p : Ptr) → ent 𝓤 (emp 𝓤) (sem 𝓛 (Data.own_val (p, tt) (word p ∷ [])))
+made 𝓛 p = makes_shadow 𝓛 (Data.own_val (p, tt) (word p ∷ [])) (λ vss. (tt, (tt, tt))) (
+  (ptr_val p ∷ [], tt),
+  (
+    refl,
+    (refl, tt),
+  ),
+)
+
+pub ptr_typed : (p : Ptr) → Good ty_ptr (ptr_val p)
+ptr_typed (block_ptr b o) = (tt, tt)
+ptr_typed null_ptr = (tt, record { fits = lit< tt })
+
+-- what is there
+pub some_of : {A : Type 0} (o : Option A) → IsSome o → (x : A) × (o ≡ Some x)
+some_of (Some x) e = (x, refl)
+some_of None e = absurd (true≢false (sym e))

@@ -1,0 +1,12 @@
+pub mod Holding
+pub mod Slots
+pub mod Codes
+pub mod Refusals
+pub mod Answers
+pub mod Handles
+pub mod Opening
+pub mod Growing
+pub mod ParcelSlots
+pub mod Parcels
+pub mod ParcelHandles
+pub mod Closing

@@ -1,0 +1,264 @@
+//! How a pool is closed.
+
+ghost use Rattle.std.specs.Prelude.{◌≡◌, ◌<◌, ◌≤◌, ◌↔◌, [], All, ◌⊎◌, IfErr, IfOk, IsTrue, length, map, MatchResult, Some, box_value, vec_capacity, vec_len};
+ghost use Rattle.std.specs.Arc.{arc_value};
+ghost use Rattle.pool_member.specs.Threads.{IsThread};
+ghost use Rattle.pool_c.specs.Closing.{AreEmpty, AreKnown, AreOne, AreSettled, AreWhole, ClosesAs, HasEndedAs, AreTaken, HaveNumbers, IsIdle, IsLate, IsNoThread, IsReady, MayNotClose};
+ghost use Rattle.pool_c.specs.Handles.{handle_refusal};
+ghost use Rattle.pool_c.specs.Holding.{behind};
+ghost use Rattle.pool_c.specs.Opening.{ArePut};
+
+use crate::codes::Refusal;
+use crate::handle::PoolThread;
+use crate::held::{Common, Held};
+use crate::opening::{boxes, leave, place};
+use crate::thread::{EMPTY, READY};
+use pool_member::work::settling::is_nothing;
+use pool_member::{Member, Room, close_all};
+use std::alloc::Global;
+use std::sync::Arc;
+
+/// What stood as a pool was closed, as `struct pool_end` has it.
+#[repr(C)]
+#[derive(Clone, Copy, Drop)]
+pub struct PoolEnd {
+    /// How many chunks were in use.
+    pub chunks: u64,
+    /// How many watched buffers had a count that was never given back.
+    pub leaks: u64,
+}
+
+/// Closes the pool whose threads are behind these handles, by number.
+pub(crate) fn close(alloc: Global, threads: &mut [PoolThread]) -> Result<PoolEnd, Refusal>
+    requires { AreKnown threads.old }
+    ensures { ClosesAs threads.old threads.new result }
+{
+    are_ready(&*threads)?;
+    let Ok(all) = Vec::with_capacity(alloc, threads.len()) else {
+        return Err(Refusal::NoMemory);
+    };
+    let all = take_all(alloc, threads, all);
+    if let Err(why) = may_close(&all) {
+        place(threads, all);
+        return Err(why);
+    }
+    let Ok(room) = Room::take(alloc, all.len()) else {
+        place(threads, all);
+        return Err(Refusal::NoMemory);
+    };
+    close_taken(alloc, threads, all, room)
+}
+
+// Whether a thread is behind each handle, ready for a call.
+fn are_ready(threads: &[PoolThread]) -> Result<(), Refusal>
+    ensures { MatchResult result (λ _. All IsReady threads.now) (IsIdle threads.now) }
+{
+    for thread in threads {
+        may_call(thread)?;
+    }
+    Ok(())
+}
+
+// Whether a thread is behind the handle, ready for a call; or why not.
+fn may_call(thread: &PoolThread) -> Result<(), Refusal>
+    ensures { let no = handle_refusal thread.now.state in
+        MatchResult result (λ _. IsReady thread.now)
+        (λ why. (no ≡ Some why) × IsNoThread why) }
+{
+    if thread.state == EMPTY {
+        return Err(Refusal::Empty);
+    }
+    if thread.state != READY {
+        return Err(Refusal::InCall);
+    }
+    Ok(())
+}
+
+// Takes what is behind each handle.
+fn take_all(
+    alloc: Global,
+    threads: &mut [PoolThread],
+    mut all: Vec<Box<Held, Global>>,
+) -> Vec<Box<Held, Global>>
+    requires ready { All IsReady threads.old }
+    requires room { length threads.old ≤ vec_capacity all }
+    requires empty { all.items ≡ [] }
+    ensures had { ArePut (map box_value result.items) threads.old }
+    ensures taken { AreTaken threads.new }
+    ensures many { vec_len result ≡ length threads.new }
+{
+    for thread in threads {
+        let Ok(held) = thread.take(alloc) else {
+            unreachable!()
+        };
+        all.push_reserved(held);
+    }
+    all
+}
+
+// Whether these are all threads of a pool, by number, with nothing to put away.
+fn may_close(all: &[Box<Held, Global>]) -> Result<(), Refusal>
+    ensures { let hs = map box_value all.now in
+        MatchResult result (λ _. AreWhole hs × AreSettled hs) (MayNotClose hs) }
+{
+    let Some(first) = all.first() else {
+        return Err(Refusal::Threads);
+    };
+    if !are_all(first.common.name, first.common.threads, all) {
+        return Err(Refusal::Threads);
+    }
+    if !are_settled(all) {
+        return Err(Refusal::Unsettled);
+    }
+    Ok(())
+}
+
+// Whether these are all threads of a pool with this name, in the order of their numbers.
+fn are_all(name: u32, threads: u32, all: &[Box<Held, Global>]) -> bool
+    ensures { IsTrue result ↔ HaveNumbers name threads (map box_value all.now) }
+{
+    if all.len() != threads as usize {
+        return false;
+    }
+    for number in 0..threads {
+        let held = &all[number as usize];
+        if held.common.name != name || held.member.account.lane != number {
+            return false;
+        }
+    }
+    true
+}
+
+// Whether none of these threads has anything to put away.
+fn are_settled(all: &[Box<Held, Global>]) -> bool
+    ensures { IsTrue result ↔ AreSettled (map box_value all.now) }
+{
+    for held in all {
+        if !is_nothing(&held.member.pending) {
+            return false;
+        }
+    }
+    true
+}
+
+// Closes the pool of these threads, which are all.
+fn close_taken(
+    alloc: Global,
+    threads: &mut [PoolThread],
+    all: Vec<Box<Held, Global>>,
+    room: Room,
+) -> Result<PoolEnd, Refusal>
+    requires many { vec_len all ≡ length threads.old }
+    requires some { 0 < vec_len all }
+    requires taken { AreTaken threads.old }
+    requires one { AreOne (map box_value all.items) }
+    requires empty { (room.members.items ≡ []) × (room.seats.items ≡ []) × (room.rests.items ≡ []) }
+    requires room { (vec_len all ≤ vec_capacity room.members)
+        × (vec_len all ≤ vec_capacity room.seats) × (vec_len all ≤ vec_capacity room.rests) }
+    ensures ended { IfOk result (HasEndedAs (map box_value all.items)) }
+    ensures empty { IfOk result (λ _. AreEmpty threads.new) }
+    ensures back { IfErr result (λ why. IsLate why
+        × (ArePut (map box_value all.items) threads.new ⊎ AreEmpty threads.new)) }
+{
+    let Room {
+        members,
+        seats,
+        rests,
+    } = room;
+    let (common, members) = unboxed(all, members);
+    let common = match Arc::try_unwrap(common) {
+        Ok(common) => common,
+        Err(common) => {
+            seats.destroy_empty();
+            restore(alloc, threads, &common, members);
+            return Err(Refusal::Shared);
+        }
+    };
+    let (shared, sizes, lanes, name) = common.apart();
+    match close_all(alloc, lanes, shared, members, seats, rests) {
+        Ok(closed) => {
+            empty_all(threads);
+            Ok(PoolEnd {
+                chunks: closed.chunks.items().len() as u64,
+                leaks: closed.leaks.items().len() as u64,
+            })
+        }
+        Err((_why, shared, members)) => {
+            let common = Common {
+                shared,
+                sizes,
+                threads: lanes,
+                name,
+            };
+            join_again(alloc, threads, common, members);
+            Err(Refusal::NoMemory)
+        }
+    }
+}
+
+// Has these threads share again what they have in common.
+fn join_again(alloc: Global, threads: &mut [PoolThread], common: Common, members: Vec<Member>)
+    requires many { vec_len members ≡ length threads.old }
+    requires taken { AreTaken threads.old }
+    requires members { All (IsThread common.shared) members.items }
+    ensures { ArePut (map (behind common) members.items) threads.new ⊎ AreEmpty threads.new }
+{
+    match Arc::new(alloc, common) {
+        Ok(common) => restore(alloc, threads, &common, members),
+        Err(_no) => {
+            leave(members);
+            empty_all(threads);
+        }
+    }
+}
+
+// What these threads have in common, and each of them.
+fn unboxed(
+    mut all: Vec<Box<Held, Global>>,
+    mut members: Vec<Member>,
+) -> (Arc<Common, Global>, Vec<Member>)
+    requires some { 0 < vec_len all }
+    requires one { AreOne (map box_value all.items) }
+    requires empty { members.items ≡ [] }
+    requires room { vec_len all ≤ vec_capacity members }
+    ensures threads { All (IsThread (arc_value result.0).shared) result.1.items }
+    ensures held { map (behind (arc_value result.0)) result.1.items ≡ map box_value all.items }
+{
+    let (common, member) = Box::into_inner(all.remove(0)).apart();
+    members.push_reserved(member);
+    for _more in 0..all.len() {
+        let (own, member) = Box::into_inner(all.remove(0)).apart();
+        drop(own);
+        members.push_reserved(member);
+    }
+    (common, members)
+}
+
+// Puts these threads behind the handles again, or leaves them for want of memory.
+fn restore(
+    alloc: Global,
+    threads: &mut [PoolThread],
+    common: &Arc<Common, Global>,
+    members: Vec<Member>,
+)
+    requires many { vec_len members ≡ length threads.old }
+    requires taken { AreTaken threads.old }
+    requires members { All (IsThread (arc_value common.now).shared) members.items }
+    ensures { ArePut (map (behind (arc_value common.now)) members.items) threads.new
+        ⊎ AreEmpty threads.new }
+{
+    match boxes(alloc, common, members) {
+        Some(all) => place(threads, all),
+        None => empty_all(threads),
+    }
+}
+
+// Nothing is behind these handles, whose threads were taken, from now on.
+fn empty_all(threads: &mut [PoolThread])
+    requires { AreTaken threads.old }
+    ensures { AreEmpty threads.new }
+{
+    for thread in threads {
+        thread.empty();
+    }
+}
