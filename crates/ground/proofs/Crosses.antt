@@ -18,7 +18,7 @@ use Rattle.ground.specs.Ownership.{raw_bytes_owns}
 pub u8-send : IsSend u8
 u8-send = search sendable
 
-u8-sync : IsSync u8
+pub u8-sync : IsSync u8
 u8-sync = search sendable
 
 pub raw_bytes_owns-keyless : (p : Ptr) (xs : List ℕ) → Keyless (raw_bytes_owns p xs)

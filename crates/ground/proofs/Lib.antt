@@ -3,7 +3,7 @@ pub mod PieceLaws
 pub mod RackLaws
 pub mod ClaimLaws
 pub mod Crosses
-pub mod Lodging
+pub mod ByteLaws
 pub mod RackMade
 pub mod RackPulled
 pub mod RackPushed

@@ -14,14 +14,14 @@ module _ {M : Type 1} {𝓤 : Ura M} (𝓛 : Logic 𝓤) where
   abbrev ⟦◌⟧ : Fml → SProp 𝓤
   ⟦ P ⟧ = sem 𝓛 P
 
-  loose : (b o : ℕ) (xs : List ℕ) → ent 𝓤 ⟦ raw_bytes_owns (block_ptr b o) xs ⟧ ⟦ bytes full_share xs b o ⟧
+  pub loose : (b o : ℕ) (xs : List ℕ) → ent 𝓤 ⟦ raw_bytes_owns (block_ptr b o) xs ⟧ ⟦ bytes full_share xs b o ⟧
   loose b o xs =
       qed 𝓛 (‵ (raw_bytes_owns (block_ptr b o) xs) ∷ []) ∵
       use1 𝓛 (‵ (fsep (feq ℕ (length xs) (length xs)) (bytes full_share xs b o)))
       (bytes_apart 𝓛 full_share (length xs) xs b o) $
       fsplit ! $ drops ! $ done !
 
-  whole : (b o : ℕ) (xs : List ℕ) → ent 𝓤 ⟦ bytes full_share xs b o ⟧ ⟦ raw_bytes_owns (block_ptr b o) xs ⟧
+  pub whole : (b o : ℕ) (xs : List ℕ) → ent 𝓤 ⟦ bytes full_share xs b o ⟧ ⟦ raw_bytes_owns (block_ptr b o) xs ⟧
   whole b o xs =
       qed 𝓛 (‵ (bytes full_share xs b o) ∷ []) ∵ feq_i ! ℕ (length xs) (length xs) refl $ fjoin ! $
       use1 𝓛 (‵ (raw_bytes_owns (block_ptr b o) xs)) (bytes_whole 𝓛 full_share (length xs) xs b o) $ done !

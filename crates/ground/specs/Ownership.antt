@@ -8,11 +8,12 @@ use base.Stored.{coded× as pair_stored, coded_ℕ as number_stored}
 use base.SetCodes.{coded}
 use base.Algebra.{Algebra}
 use base.Algebras.{both, shares, agreed}
-use base.Fml.{GName, Share, Fml, fown, ftrue, fsep}
+use base.Fml.{Lft, GName, Share, Fml, fown, ftrue, fsep}
 use types.Keyed.{keyed}
 use denote.Builtin.{u8}
 use denote.Array.{Array}
 use denote.RawPtr.{Ptr, ◌+ₚ◌, block_ptr, coded_ptr, lies_at, block_of, count_of}
+use denote.Struct.Lending.{lent_at}
 use Rattle.ground.specs.Rack.{Cell}
 
 -- ---- bytes
@@ -35,6 +36,10 @@ IsPlaced p = p ≡ block_ptr (block_of p) (count_of p)
 -- the bytes xs lie at p
 abbrev pub raw_bytes_owns : Ptr → List ℕ → Fml
 raw_bytes_owns p xs = lies_at (Array u8 (length xs)) full_share p xs
+
+-- what a `&` to them shows
+abbrev pub raw_bytes_shares : Ptr → List ℕ → Lft → Fml
+raw_bytes_shares p xs = lent_at (Array u8 (length xs)) p xs
 
 -- ---- claims: who has which places of a ground
 

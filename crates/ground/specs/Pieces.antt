@@ -1,5 +1,5 @@
 -- How a piece holds its bytes. No public clause cites this module.
-use Rattle.std.specs.Prelude.{◌≡◌, ◌+◌, ◌-◌, ◌^◌, ◌<◌, ◌≤◌}
+use Rattle.std.specs.Prelude.{◌≡◌, ◌+◌, ◌-◌, ◌^◌, ◌<◌, ◌≤◌, length}
 use denote.RawPtr.{block_of, count_of}
 use Rattle.ground.specs.Ground.{Segment}
 use Rattle.ground.specs.Ownership.{IsPlaced}
@@ -10,19 +10,20 @@ abbrev pub segment_of : Inside → Segment
 segment_of p = record {
   origin = record {
     name = p.claim.name;
-    block = block_of p.bytes.ptr;
-    first = count_of p.bytes.ptr - p.start;
+    block = block_of p.ptr;
+    first = count_of p.ptr - p.start;
     size = p.claim.size;
   };
   start = p.start;
-  bytes = p.bytes.items;
+  bytes = p.raw_bytes.items;
 }
 
--- the bytes, the claim and the start of a piece speak of the same places of one ground
+-- the pointer, the bytes, the claim and the start of a piece speak of the same places of one ground
 pub record IsPiece (p : Inside) : Type 0 where
-  pub placed : IsPlaced p.bytes.ptr
-  pub some : 0 < p.bytes.len
-  pub claimed : (p.claim.start ≡ p.start) × (p.claim.len ≡ p.bytes.len)
-  pub within : p.start + p.bytes.len ≤ p.claim.size
-  pub above : p.start ≤ count_of p.bytes.ptr
+  pub placed : IsPlaced p.ptr
+  pub there : (p.raw_bytes.ptr ≡ p.ptr) × (length p.raw_bytes.items ≡ p.len)
+  pub some : 0 < p.len
+  pub claimed : (p.claim.start ≡ p.start) × (p.claim.len ≡ p.len)
+  pub within : p.start + p.len ≤ p.claim.size
+  pub above : p.start ≤ count_of p.ptr
   pub small : p.claim.size ≤ 2 ^ 24

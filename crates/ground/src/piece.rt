@@ -5,12 +5,11 @@ ghost use Rattle.ground.specs.Ground.{Origin, Segment, IsWhole, Follows, Apart, 
 ghost use Rattle.ground.specs.contracts.piece.Piece.{the_row};
 
 use crate::claim::Claim;
-use crate::raw_bytes::{Block, attach, detach, raw_of, vec_over};
+use crate::raw_bytes::{Block, RawBytes, attach, detach};
 use crate::site::Site;
 use std::alloc::{AllocError, Global};
 use std::marker::Model;
 use std::mem::ManuallyDrop;
-use std_alloc::vec::Lodged;
 
 /// Where pieces come from.
 pub struct Ground;
@@ -22,9 +21,12 @@ pub struct Ground;
 /// It has no `Drop`: `split`, `join`, `Rack::of` and `leave` spend it, and so does `close` where it
 /// is the whole ground.
 pub struct Piece {
-    // A `Vec` that neither grows nor frees.
-    pub(crate) bytes: Vec<u8, Lodged>,
-    pub(crate) start: usize,
+    // Where its bytes lie.
+    pub(crate) ptr: *mut u8,
+    // How many bytes into its ground it begins, and how many it has.
+    pub(crate) start: u32,
+    pub(crate) len: u32,
+    pub(crate) raw_bytes: RawBytes,
     pub(crate) claim: Claim,
 }
 
@@ -39,6 +41,12 @@ impl Model for Piece {
 
     ghost invariant = { IsPiece };
 }
+
+// `ptr` points to memory that `raw_bytes` owns.
+unsafe impl Send for Piece {}
+
+// A `&` to it shows the bytes.
+unsafe impl Sync for Piece {}
 
 /// The right to give the memory of a ground back. Contracts see it as its ground.
 ///
@@ -81,8 +89,10 @@ impl Ground {
         let ptr = vec.as_mut_ptr();
         let (raw_bytes, block) = detach(vec);
         let piece = Piece {
-            bytes: vec_over(ptr, len, raw_bytes),
+            ptr,
             start: 0,
+            len: len as u32,
+            raw_bytes,
             claim: Claim::new(len),
         };
         let site = Site::of(&piece);
@@ -98,7 +108,7 @@ impl Piece {
         ensures within { self.now.start + result ≤ self.now.origin.size }
         ensures small { self.now.origin.size ≤ 2 ^ 24 }
     {
-        self.bytes.len()
+        self.len as usize
     }
 
     /// How many bytes into its ground it begins.
@@ -106,7 +116,7 @@ impl Piece {
         ensures start { result ≡ self.now.start }
         ensures small { result < 2 ^ 24 }
     {
-        self.start
+        self.start as usize
     }
 
     /// The first `at` bytes, and the others.
@@ -118,23 +128,27 @@ impl Piece {
         ensures right { Follows result.0 result.1 × (result.1.bytes ≡ drop at self.bytes) }
     {
         let Piece {
-            mut bytes,
+            ptr,
             start,
+            len,
+            raw_bytes,
             claim,
         } = self;
-        let len = bytes.len();
-        let ptr = bytes.as_mut_ptr();
-        let (front, back) = raw_of(bytes).cut(at);
+        let (front, back) = raw_bytes.cut(at);
         let (first, second) = claim.cut(at);
+        let count = at as u32;
         let left = Piece {
-            bytes: vec_over(ptr, at, front),
+            ptr,
             start,
+            len: count,
+            raw_bytes: front,
             claim: first,
         };
-        let past = unsafe { ptr.byte_add(at) };
         let right = Piece {
-            bytes: vec_over(past, len - at, back),
-            start: start + at,
+            ptr: unsafe { ptr.byte_add(at) },
+            start: start + count,
+            len: len - count,
+            raw_bytes: back,
             claim: second,
         };
         (left, right)
@@ -148,21 +162,24 @@ impl Piece {
         ensures { result ≡ with_bytes self (self.bytes ++ right.bytes) }
     {
         let Piece {
-            mut bytes,
+            ptr,
             start,
+            len,
+            raw_bytes,
             claim,
         } = self;
         let Piece {
-            bytes: more,
+            ptr: _,
             start: _,
+            len: more,
+            raw_bytes: others,
             claim: second,
         } = right;
-        let len = bytes.len() + more.len();
-        let ptr = bytes.as_mut_ptr();
-        let raw_bytes = raw_of(bytes).glue(raw_of(more));
         Piece {
-            bytes: vec_over(ptr, len, raw_bytes),
+            ptr,
             start,
+            len: len + more,
+            raw_bytes: raw_bytes.glue(others),
             claim: claim.glue(second),
         }
     }
@@ -171,7 +188,7 @@ impl Piece {
     pub fn bytes(&self) -> &[u8]
         ensures { result.now ≡ self.now.bytes }
     {
-        self.bytes.as_slice()
+        self.raw_bytes.bytes(self.ptr, self.len as usize)
     }
 
     /// The bytes, to write: the piece then has what is in the slice when its borrow ends.
@@ -180,7 +197,7 @@ impl Piece {
             (Lends the_row (Array byte 0) self.entry result (overwritten self.old)) }
         ensures value { result.now ≡ self.old.bytes }
     {
-        self.bytes.as_mut_slice()
+        self.raw_bytes.bytes_mut(self.ptr, self.len as usize)
     }
 
     /// Shows that two pieces of one ground have no byte in common.
@@ -199,14 +216,16 @@ impl Piece {
         requires deed { deed ≡ self.origin }
     {
         let Piece {
-            bytes,
+            ptr: _,
             start: _,
+            len: _,
+            raw_bytes,
             claim,
         } = self;
         let _spent = unsafe { ManuallyDrop::new_unchecked(claim) };
         let Deed { block, site } = deed;
         drop(site);
-        drop(attach(raw_of(bytes), block));
+        drop(attach(raw_bytes, block));
     }
 
     /// Spends the piece. Its memory is not given back before the program ends.

@@ -4,7 +4,6 @@ ghost use Rattle.ground.specs.Ground.{Segment};
 ghost use Rattle.ground.specs.Rack.{Racked, HasCell, IsIn, AllIn, bytes_of, elements_of, IsElement, IsOutOf, without_element, with_element};
 
 use crate::piece::Piece;
-use crate::raw_bytes::{raw_of, vec_over};
 use crate::raw_rack::{RawPiece, RawRack};
 use std::marker::Model;
 use std::mem::{ManuallyDrop, replace};
@@ -51,17 +50,18 @@ impl Rack {
         ensures { result ≡ elements_of piece size }
     {
         let Piece {
-            mut bytes,
+            ptr,
             start,
+            len,
+            raw_bytes,
             claim,
         } = piece;
-        let len = bytes.len();
-        let at = bytes.as_mut_ptr();
-        let raw_piece = RawPiece::of(raw_of(bytes), claim);
+        let len = len as usize;
+        let raw_piece = RawPiece::of(raw_bytes, claim);
         Rack {
             raw_rack: Some(RawRack::of(raw_piece, size, len / size)),
-            at,
-            start,
+            at: ptr,
+            start: start as usize,
             len,
             each: size,
         }
@@ -86,10 +86,11 @@ impl Rack {
         };
         let (raw_bytes, claim) = raw_piece.parts();
         let far = i * self.each;
-        let at = unsafe { self.at.byte_add(far) };
         Piece {
-            bytes: vec_over(at, self.each, raw_bytes),
-            start: self.start + far,
+            ptr: unsafe { self.at.byte_add(far) },
+            start: (self.start + far) as u32,
+            len: self.each as u32,
+            raw_bytes,
             claim,
         }
     }
@@ -103,12 +104,14 @@ impl Rack {
             → self.new ≡ with_element self.old i piece.bytes }
     {
         let Piece {
-            bytes,
+            ptr: _,
             start,
+            len: _,
+            raw_bytes,
             claim,
         } = piece;
-        let i = (start - self.start) / self.each;
-        let raw_piece = RawPiece::of(raw_of(bytes), claim);
+        let i = (start as usize - self.start) / self.each;
+        let raw_piece = RawPiece::of(raw_bytes, claim);
         let Some(raw_rack) = self.raw_rack.take() else {
             unreachable!();
         };
@@ -140,8 +143,10 @@ impl Rack {
         };
         let (raw_bytes, claim) = raw_rack.whole().parts();
         Piece {
-            bytes: vec_over(at, len, raw_bytes),
-            start,
+            ptr: at,
+            start: start as u32,
+            len: len as u32,
+            raw_bytes,
             claim,
         }
     }

@@ -1,14 +1,15 @@
 //! Bytes that lie in the block of a `Vec`, apart from that `Vec`.
 //! `RawBytes` is ghost state: it takes no memory, and to cut or glue it takes no time.
 ghost use Rattle.std.specs.Prelude.{◌≡◌, ℕ, ◌+◌, ◌^◌, ◌<◌, ◌≤◌, List, ◌++◌, length, take, drop};
+ghost use Rattle.std.specs.Borrow.{Lends, Array, sem, u8 as byte};
 ghost use Rattle.std.specs.Vec.{with_items};
 ghost use base.Fml.{ftrue, fex, fall, fwand, fsep, feq};
 ghost use denote.RawPtr.{Ptr, ◌+ₚ◌};
-ghost use Rattle.ground.specs.Ownership.{Extent, extent_code, raw_bytes_owns};
+ghost use Rattle.ground.specs.Ownership.{Extent, extent_code, raw_bytes_owns, raw_bytes_shares};
 
 use std::alloc::Allocator;
 use std::marker::{Model, Move, Owns};
-use std_alloc::vec::{Lodged, lodge};
+use std::slice;
 
 // The bytes at `ptr`, which nothing else can reach.
 pub(crate) struct RawBytes {
@@ -18,6 +19,8 @@ pub(crate) struct RawBytes {
 
 impl Model for RawBytes {
     ghost also_owns = { λ s. raw_bytes_owns s.ptr s.items };
+
+    ghost also_shares = { λ s _ κ. raw_bytes_shares s.ptr s.items κ };
 }
 
 // The block of a `Vec` whose bytes are out as `RawBytes`, and the right to free it.
@@ -64,27 +67,10 @@ pub(crate) fn attach<A: Allocator>(raw_bytes: RawBytes, block: Block<A>) -> Vec<
     vec
 }
 
-// A `Vec` over bytes, which neither grows nor frees their block.
-pub(crate) fn vec_over(ptr: *mut u8, len: usize, raw_bytes: RawBytes) -> Vec<u8, Lodged>
-    requires { (raw_bytes.ptr ≡ ptr) × (length raw_bytes.items ≡ len)
-        × (0 < len) × (len < 2 ^ 63) }
-    ensures { (result.items ≡ raw_bytes.items) × (result.len ≡ len) × (result.cap ≡ len)
-        × (result.ptr ≡ ptr) }
-{
-    let RawBytes {} = raw_bytes;
-    unsafe { lodge(ptr, len, len) }
-}
-
-// The bytes that such a `Vec` is over.
-pub(crate) fn raw_of(vec: Vec<u8, Lodged>) -> RawBytes
-    requires { 0 < vec.len }
-    ensures { (result.ptr ≡ vec.ptr) × (result.items ≡ vec.items) }
-{
-    let _len = vec.dislodge();
-    RawBytes {}
-}
-
 impl RawBytes {
+    ghost use Rattle.ground.specs.Lending.{rewritten};
+    ghost use Rattle.ground.specs.contracts.raw_bytes.RawBytes.{the_row};
+
     // The first `mid` bytes, and the others.
     pub(crate) fn cut(self, mid: usize) -> (RawBytes, RawBytes)
         requires { mid ≤ length self.items }
@@ -103,5 +89,23 @@ impl RawBytes {
         let RawBytes {} = self;
         let RawBytes {} = right;
         RawBytes {}
+    }
+
+    // The bytes, to read.
+    pub(crate) fn bytes(&self, ptr: *mut u8, len: usize) -> &[u8]
+        requires { (ptr ≡ self.now.ptr) × (length self.now.items ≡ len) × (len < 2 ^ 63) }
+        ensures { result.now ≡ self.now.items }
+    {
+        unsafe { slice::from_raw_parts(ptr, len) }
+    }
+
+    // The bytes, to write.
+    pub(crate) fn bytes_mut(&mut self, ptr: *mut u8, len: usize) -> &mut [u8]
+        requires { (ptr ≡ self.old.ptr) × (length self.old.items ≡ len) × (len < 2 ^ 63) }
+        ensures* writes_back { sem 𝓛
+            (Lends the_row (Array byte 0) self.entry result (rewritten self.old)) }
+        ensures value { result.now ≡ self.old.items }
+    {
+        unsafe { slice::from_raw_parts_mut(ptr, len) }
     }
 }

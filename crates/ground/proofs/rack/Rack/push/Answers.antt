@@ -18,10 +18,10 @@ record Placed (r : Inside) (sh : RawRack) (p : PieceInside) (i : ℕ) : Type 0 w
   index : (p.start - r.start) / r.each ≡ i
   start : p.start ≡ r.start + i * r.each
   cell : HasCell i None sh.cells
-  pointer : p.bytes.ptr ≡ (r.at +ₚ i * r.each)
+  pointer : p.ptr ≡ (r.at +ₚ i * r.each)
   name : p.claim.name ≡ sh.name
   size : p.claim.size ≡ sh.size
-  long : length p.bytes.items ≡ r.each
+  long : length p.raw_bytes.items ≡ r.each
 
 place : (r : Inside) (sh : RawRack) (p : PieceInside) (v : Racked) (s : Segment) (i : ℕ) → IsRack r → IsPiece p
     → r.raw_rack ≡ Some sh → rack_of r ≡ v → segment_of p ≡ s → IsElement v i s → HasCell i None v.cells
@@ -38,7 +38,7 @@ place r sh p v s i is piece e same here element none =
       start = at.1;
       cell = subst C e known.1;
       pointer =
-          at_pointer p.bytes.ptr r.at (i * r.each) piece.placed is.placed (ap (λ (o : Origin). o.block) at.0)
+          at_pointer p.ptr r.at (i * r.each) piece.placed is.placed (ap (λ (o : Origin). o.block) at.0)
           (omega (arith, first, at.1, piece.above, is.above));
       name = ap (λ (o : Origin). o.name) at.0 ∙ ap name_in e;
       size = ap (λ (o : Origin). o.size) at.0 ∙ ap size_in e;
@@ -55,14 +55,15 @@ push-raw_rack-requires c =
     let w = place r sh p c.args.self.now c.args.piece i c.self.invariant c.piece.invariant e c.self.view_is
     c.piece.view_is c.requires.1 c.requires.2 in
     let o = opened r sh c.self.invariant e in
+    let long = sym c.piece.invariant.there.1 ∙ w.long ∙ sym o.raw_rack.2 in
     rw w.index (
       w.cell,
-      c.of-raw_piece.ensures.0 ∙ c.raw_of.ensures.0 ∙ w.pointer
+      c.of-raw_piece.ensures.0 ∙ c.piece.invariant.there.0 ∙ w.pointer
           ∙ ap₂ (λ (x : Ptr) (k : ℕ). x +ₚ i * k) (sym o.raw_rack.0) (sym o.raw_rack.2),
       c.of-raw_piece.ensures.2 ∙ w.name,
       c.of-raw_piece.ensures.3 ∙ c.piece.invariant.claimed.0 ∙ w.start
           ∙ ap₂ (λ (x k : ℕ). x + i * k) (sym o.raw_rack.1) (sym o.raw_rack.2),
-      c.of-raw_piece.ensures.4 ∙ c.piece.invariant.claimed.1 ∙ p.bytes.ok.0 ∙ w.long ∙ sym o.raw_rack.2,
+      c.of-raw_piece.ensures.4 ∙ c.piece.invariant.claimed.1 ∙ long,
     )
 
 pub invariant_of-self : goal.invariant_of-self
@@ -79,7 +80,7 @@ invariant_of-self c =
     rack_with r sh c.push-raw_rack.result c.replace-empty.new.dest j c.of-raw_piece.result.items c.self.invariant e
     (subst K (sym w.index) w.cell)
     c.replace-empty.ensures.after c.push-raw_rack.ensures
-    (ap length (c.of-raw_piece.ensures.1 ∙ c.raw_of.ensures.1) ∙ w.long)
+    (ap length c.of-raw_piece.ensures.1 ∙ w.long)
 
 pub returns : goal.returns
 returns c = λ k is.
@@ -90,7 +91,7 @@ returns c = λ k is.
     let j = (p.start - r.start) / r.each in
     let here : p.start ≡ r.start + k * r.each = ap (λ (s : Segment). s.start) c.piece.view_is ∙ is.1
     ∙ sym (ap (λ (v : Racked). v.start + k * v.each) c.self.view_is) in
-    let bytes : c.of-raw_piece.result.items ≡ c.args.piece.bytes = c.of-raw_piece.ensures.1 ∙ c.raw_of.ensures.1
+    let bytes : c.of-raw_piece.result.items ≡ c.args.piece.bytes = c.of-raw_piece.ensures.1
     ∙ ap (λ (s : Segment). s.bytes) c.piece.view_is in
     view_with r sh c.push-raw_rack.result c.replace-empty.new.dest j k c.of-raw_piece.result.items c.args.piece.bytes e
     c.replace-empty.ensures.after c.push-raw_rack.ensures
