@@ -168,6 +168,7 @@ pub(crate) fn push<W: Wait>(rt: &W, queue: &Queue, pass: &mut MailPass, posted: 
 // The front letter, under any rule under which the pass that pops gets its next one. None comes
 // exactly where the queue was empty at this call's own step: the rule is not known here, so nothing
 // else shows that it held of no letters.
+#[inline(always)]
 fn pop_under<P: Protocol<Posted, MailEnds>, W: Wait>(
     rt: &W,
     queue: &RuledArrayQueue<Posted, MailEnds, P>,
@@ -184,6 +185,7 @@ fn pop_under<P: Protocol<Posted, MailEnds>, W: Wait>(
 }
 
 /// Pops the next letter. None comes exactly where the queue was empty at this call's own step.
+#[inline(always)]
 pub(crate) fn pop<W: Wait>(rt: &W, queue: &Queue, pass: &mut MailPass) -> Option<Posted>
     requires pass { IsPassOf queue.now pass.old × IsReceiver (view pass.old) }
     ensures pass { IsPassOf queue.now pass.new }

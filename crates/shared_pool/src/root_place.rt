@@ -91,7 +91,7 @@ impl Root {
     }
 
     // Records an access.
-    #[inline]
+    #[inline(always)]
     pub(crate) fn record(&mut self, access: Access)
         requires { self.old.handle.tracker.dropped < 2 ^ 63 }
         ensures { let tracker = with_access self.old.handle.tracker access in
@@ -180,7 +180,7 @@ impl RootPlace {
 
     /// A root is born at this place, with the handle of the place and a region whose first bytes
     /// are cleared. It has the next generation.
-    #[inline]
+    #[inline(always)]
     pub(crate) fn bear(
         &mut self,
         mut handle: Handle,
