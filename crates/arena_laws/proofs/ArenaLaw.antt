@@ -1,5 +1,5 @@
 -- Takings of one arena that are out together have no byte in common, after every history.
-use Rattle.std.proofs.Common.{eqb-true, ◌≡◌, inl, ℕ, zero, suc, List, [], ◌∷◌, refl, sym, ap, subst, Bool, true, false, Some, None}
+use Rattle.std.proofs.Common.{eqb-true, ◌≡◌, inl, ℕ, zero, suc, List, [], ◌∷◌, refl, sym, ap, subst, Bool, true, Some, None}
 use Rattle.std.specs.Prelude.{nat_lt, not, ◌&&◌, ◌==◌, slice_get, replicate, Option, unwrap_or, option_and_then}
 use Rattle.size_classes.specs.Sizes.{Geometry, class_count, IsPage}
 use Rattle.pool_law.specs.declared.id.RegionId.{RegionId}
@@ -11,20 +11,13 @@ use Rattle.pool_law.specs.Same.{same_taking, same_place, same_region}
 use Rattle.pool_law.specs.Chunks.{Chunk}
 use Rattle.pool_law.specs.Arenas.{Arena, new_arena, chunk_at, take, give, given_place, is_out_of, as_noted, if_none, arena_step}
 use Rattle.pool_law.specs.Histories.{after, arena_after}
+use Rattle.pool_law.proofs.SameLemmas.{and-first, and-second}
 use Rattle.arena_laws.specs.Slots.{IsSlot, IsSound, EachOf, EachTwo, IsLocated, BeginElsewhere, ArenaHolds, AreApart, OutApart}
 use Rattle.arena_laws.proofs.SlotLemmas.{slots-apart}
 use Rattle.arena_laws.proofs.ElementTakes.{take-holds}
 use Rattle.arena_laws.proofs.GiveSteps.{Kept, IsOne}
 use Rattle.arena_laws.proofs.ElementGives.{NotAt, given_place-is, any-one, EachOf-one, EachOf-filter, EachTwo-filter, others-elsewhere}
 use Rattle.std.proofs.lemmas.Bool.{cond_both}
-
-pub and-first : (a b : Bool) → (a && b) ≡ true → a ≡ true
-and-first true b e = refl
-and-first false b e = cc e
-
-pub and-second : (a b : Bool) → (a && b) ≡ true → b ≡ true
-and-second true b e = e
-and-second false b e = cc e
 
 pub EachOf-two : {X : Type 0} (P Q R : X → Type 0) (xs : List X) → ((x : X) → P x → Q x → R x) → EachOf P xs
     → EachOf Q xs → EachOf R xs

@@ -1,7 +1,7 @@
 -- The subpages of a class that stand in its list, after one of them entered or left.
 use Rattle.std.proofs.Common.{ne_eqb, eq-eqb, ⊎_elim, ◌≡◌, ◌≢◌, inl, inr, ℕ, ◌<◌, List, [], ◌∷◌, length, refl, sym, ap, subst, Bool, true, false, ◌∙◌}
 use Rattle.std.specs.Prelude.{◌⊎◌, ◌==◌, ◌&&◌, ◌||◌, not, if◌then◌else◌, unwrap_or}
-use Rattle.std.proofs.lemmas.Bool.{cond_both}
+use Rattle.std.proofs.lemmas.Bool.{cond_both, or_parts}
 use Rattle.pool_law.specs.Arenas.{Arena, with_front, front_of, without_spot}
 use Rattle.arena_laws.specs.Orderly.{has_spot, SpotsDiffer}
 use Rattle.pool_law.proofs.ListLemmas.{slice_get-set_same, slice_get-set_other}
@@ -79,24 +79,16 @@ without-other c page d p (s ∷ spots) apart =
         ap (λ b. has_spot d p (if not b then s ∷ without_spot c page spots else without_spot c page spots)) is
         ∙ ap (λ b. ((s.0 == d) && (s.1 == p)) || b) rest
 
-or-later : (a b : Bool) → (a || b) ≡ false → b ≡ false
-or-later true b e = absurd (cc e)
-or-later false b e = e
-
-or-none : (a b : Bool) → (a || b) ≡ false → a ≡ false
-or-none true b e = absurd (cc e)
-or-none false b e = refl
-
 pub without-none : (c page d p : ℕ) (spots : List (ℕ × ℕ)) → has_spot d p spots ≡ false
     → has_spot d p (without_spot c page spots) ≡ false
 without-none c page d p [] none = refl
 without-none c page d p (s ∷ spots) none =
     let rest : has_spot d p (without_spot c page spots)
-    ≡ false = without-none c page d p spots (or-later ((s.0 == d) && (s.1 == p)) (has_spot d p spots) none) in
+    ≡ false = without-none c page d p spots (or_parts ((s.0 == d) && (s.1 == p)) (has_spot d p spots) none).1 in
     cond_both (not ((s.0 == c) && (s.1 == page))) (s ∷ without_spot c page spots) (without_spot c page spots)
     (λ z. has_spot d p z ≡ false)
     (λ _. ap (λ b. b || has_spot d p (without_spot c page spots))
-    (or-none ((s.0 == d) && (s.1 == p)) (has_spot d p spots) none) ∙ rest)
+    (or_parts ((s.0 == d) && (s.1 == p)) (has_spot d p spots) none).0 ∙ rest)
     (λ _. rest)
 
 pub without-differ : (c page : ℕ) (spots : List (ℕ × ℕ)) → SpotsDiffer spots → SpotsDiffer (without_spot c page spots)

@@ -5,6 +5,7 @@ use Rattle.std.proofs.lemmas.Bool.{cond_both}
 use Rattle.pool_law.specs.declared.report.ListName.{ListName}
 use Rattle.pool_law.specs.declared.report.ListName.TheVariants.{QInit, Q000, Q025, Q050, Q075, Q100}
 use Rattle.pool_law.specs.ChunkLists.{Lists, no_chunks, list_named, entered, without, left, has, list_of, same_list, lists_above, risen, moved_to, settled_up, settled_down}
+use Rattle.pool_law.proofs.NumberLemmas.{has-without}
 
 -- ---- one list
 
@@ -13,17 +14,6 @@ has-first c xs = ap (λ b. b || has c xs) (eq-eqb c c refl)
 
 pub has-later : (c d : ℕ) (xs : List ℕ) → d ≢ c → has d (c ∷ xs) ≡ has d xs
 has-later c d xs other = ap (λ b. b || has d xs) (ne_eqb c d (λ e. other (sym e)))
-
--- a chunk that left is not there, and the others are where they were
-pub has-without_same : (c : ℕ) (xs : List ℕ) → has c (without c xs) ≡ false
-has-without_same c [] = refl
-has-without_same c (x ∷ xs) = go (x == c) refl (has-without_same c xs)
-  where
-    go : (b : Bool) → (x == c) ≡ b → has c (without c xs) ≡ false → has c (without c (x ∷ xs)) ≡ false
-    go true is rest = ap (λ b. has c (if not b then x ∷ without c xs else without c xs)) is ∙ rest
-    go false is rest =
-        ap (λ b. has c (if not b then x ∷ without c xs else without c xs)) is ∙ ap (λ b. b || has c (without c xs)) is
-        ∙ rest
 
 pub has-without_other : (c d : ℕ) (xs : List ℕ) → d ≢ c → has d (without c xs) ≡ has d xs
 has-without_other c d [] other = refl
@@ -118,12 +108,12 @@ entered-others l c d other Q100 Q100 = has-later c d l.q100 other
 entered-others l c d other _ _ = refl
 
 pub left-here : (l : Lists) (c : ℕ) (name : ListName) → has c (list_named (left l c) name) ≡ false
-left-here l c QInit = has-without_same c l.init
-left-here l c Q000 = has-without_same c l.q000
-left-here l c Q025 = has-without_same c l.q025
-left-here l c Q050 = has-without_same c l.q050
-left-here l c Q075 = has-without_same c l.q075
-left-here l c Q100 = has-without_same c l.q100
+left-here l c QInit = has-without c l.init
+left-here l c Q000 = has-without c l.q000
+left-here l c Q025 = has-without c l.q025
+left-here l c Q050 = has-without c l.q050
+left-here l c Q075 = has-without c l.q075
+left-here l c Q100 = has-without c l.q100
 
 pub left-others : (l : Lists) (c d : ℕ) → d ≢ c → (name : ListName)
     → has d (list_named (left l c) name) ≡ has d (list_named l name)

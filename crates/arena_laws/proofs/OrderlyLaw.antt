@@ -14,10 +14,10 @@ use Rattle.pool_law.specs.Arenas.{Arena, new_arena, chunk_at, take, give, is_out
 use Rattle.pool_law.specs.Histories.{after, arena_after}
 use Rattle.arena_laws.specs.Slots.{IsSlot, IsLocated, ArenaHolds}
 use Rattle.arena_laws.specs.Orderly.{IsOrderly}
-use Rattle.pool_law.proofs.SameLemmas.{same_place-is}
+use Rattle.pool_law.proofs.SameLemmas.{same_place-is, and-first}
 use Rattle.arena_laws.proofs.GiveSteps.{IsOne}
 use Rattle.arena_laws.proofs.ElementGives.{any-one, EachOf-one}
-use Rattle.arena_laws.proofs.ArenaLaw.{and-first, same_taking-place, step-holds, new-holds}
+use Rattle.arena_laws.proofs.ArenaLaw.{same_taking-place, step-holds, new-holds}
 use Rattle.arena_laws.proofs.OrderlyTakes.{new-orderly, take-orderly}
 use Rattle.arena_laws.proofs.OrderlyGives.{give-orderly}
 

@@ -1,6 +1,6 @@
 -- Between two takings of one arena whose places overlap, the first came back.
 use Rattle.std.proofs.Common.{⊎_elim, ◌≡◌, inl, inr, ℕ, List, [], ◌∷◌, ◌++◌, refl, sym, ap, subst, arith, Bool, true, false, Some, None, ◌∙◌}
-use Rattle.std.specs.Prelude.{nat_lt, not, ◌||◌, filter, Option, option_map, option_and_then}
+use Rattle.std.specs.Prelude.{nat_lt, not, filter, Option, option_map, option_and_then}
 use Rattle.std.specs.List.{list_any}
 use Rattle.size_classes.specs.Sizes.{Geometry, class_count, IsPage}
 use Rattle.pool_law.specs.declared.id.RegionId.{RegionId}
@@ -18,7 +18,7 @@ use Rattle.arena_laws.proofs.GiveSteps.{IsOne}
 use Rattle.arena_laws.proofs.ElementGives.{EachOf-one}
 use Rattle.arena_laws.proofs.ArenaLaw.{step-holds, after-holds, new-holds, pairs-apart}
 use Rattle.pool_law.proofs.SameLemmas.{same_region-is}
-use Rattle.std.proofs.lemmas.Bool.{cond_both, true_from_ne_false}
+use Rattle.std.proofs.lemmas.Bool.{cond_both, true_from_ne_false, or_parts}
 
 pub IsOne-front : {X : Type 0} (x : X) (xs ys : List X) → IsOne x xs → IsOne x (xs ++ ys)
 IsOne-front x [] ys o = absurd o
@@ -46,14 +46,6 @@ EachTwo-last R x y [] h o = absurd o
 EachTwo-last R x y (z ∷ zs) h (inl o) =
     subst (λ w. R w y) (sym o) (EachOf-one (R z) (zs ++ y ∷ []) y h.0 (IsOne-last y zs))
 EachTwo-last R x y (z ∷ zs) h (inr o) = EachTwo-last R x y zs h.1 o
-
-pub or-first : (a b : Bool) → (a || b) ≡ false → a ≡ false
-or-first true b e = cc e
-or-first false b e = refl
-
-pub or-second : (a b : Bool) → (a || b) ≡ false → b ≡ false
-or-second true b e = cc e
-or-second false b e = e
 
 -- a history of one note is one step
 pub one-step : {S : Type 0} (step : S → Did → Option S) (s t : S) (d : Did) → after step s (d ∷ []) ≡ Some t
@@ -137,8 +129,8 @@ module _ (g : Geometry) (number : ℕ) where
   after-keeps [] a b r holds e o kept = let same : a ≡ b = cc e in subst (λ x. IsOne r x.out) same o
   after-keeps (d ∷ ds) a b r holds e o kept =
       go (arena_step g number a d) (λ t. step-holds g number a t d holds)
-      (λ t is. step-keeps a t d r holds is o (or-first (gives r d) (list_any (gives r) ds) kept)) e
-      (λ t h is one. after-keeps ds t b r h is one (or-second (gives r d) (list_any (gives r) ds) kept))
+      (λ t is. step-keeps a t d r holds is o (or_parts (gives r d) (list_any (gives r) ds) kept).0) e
+      (λ t h is one. after-keeps ds t b r h is one (or_parts (gives r d) (list_any (gives r) ds) kept).1)
     where
       go : (x : Option Arena) → ((t : Arena) → x ≡ Some t → ArenaHolds g number t)
           → ((t : Arena) → x ≡ Some t → IsOne r t.out)

@@ -1,6 +1,6 @@
 -- The histories of all objects hold, where those of the objects that the logs name do.
 use Rattle.std.proofs.Common.{◌≡◌, ℕ, zero, suc, ◌+◌, ◌<◌, ◌≤◌, List, [], ◌∷◌, length, Bool, true, false, refl, sym, ap, ne_eqb, arith, ◌∙◌}
-use Rattle.std.specs.Prelude.{◌==◌, ◌&&◌, nat_lt, if◌then◌else◌, map, take, slice_get, unwrap_or, Some}
+use Rattle.std.specs.Prelude.{◌==◌, ◌&&◌, nat_lt, if◌then◌else◌, map, take, slice_get, Some}
 use Rattle.std.specs.List.{list_all}
 use Rattle.std.proofs.lemmas.Bool.{ltb-true}
 use Rattle.pool_law.specs.declared.id.Parcel.{Parcel}
@@ -16,7 +16,8 @@ use Rattle.pool_law.specs.Logs.{Logs, History, dids, of_lane, own, numbered, IsH
 use Rattle.pool_law.specs.Mails.{posted, fetched, MailHolds, MailsHold}
 use Rattle.pool_law.specs.Legal.{HistoriesHold}
 use Rattle.pool_law.proofs.SameLemmas.{and-first, and-second}
-use Rattle.pool_law.proofs.ListLemmas.{slice_get-past}
+use Rattle.pool_law.proofs.HistoryLemmas.{log-past}
+use Rattle.pool_law.proofs.LogLemmas.{accepts-nothing}
 use Rattle.definition_rows.proofs.Lanes.{all_from, all_lanes, each_from, each_lane}
 use Rattle.definition_rows.proofs.Listed.{listed, added, each_object, another_object}
 
@@ -147,16 +148,6 @@ numbered-past lanes lane n (x ∷ h) past e =
     let other : (x.0 == lane) ≡ false = ne_eqb x.0 lane (λ same. omega (arith, same)) in
     rw other (numbered-past lanes lane (n + 1) h past (and-second _ _ e))
 
-of_lane-past : (logs : Logs) (lane : ℕ) → length logs ≤ lane → of_lane logs lane ≡ []
-of_lane-past logs lane past = ap (λ o. unwrap_or o []) (slice_get-past logs lane past)
-
-accepts-nothing : (shape : Shape) (object : Object) → has_history object ≡ true → accepts shape object [] ≡ true
-accepts-nothing shape (Object.Arena number) has = refl
-accepts-nothing shape (Object.Cache lane class) has = refl
-accepts-nothing shape (Object.Bin lane) has = refl
-accepts-nothing shape (Object.Mail from to) has = absurd (cc has)
-accepts-nothing shape (Object.Root place) has = refl
-
 module _ (shape : Shape) (logs : Logs) (objects : List Object)
     (named : all_from (objects_pass objects) 0 logs ≡ true)
     (pass : map (object_passes shape logs) objects ≡ map (λ _. true) objects)
@@ -197,7 +188,7 @@ module _ (shape : Shape) (logs : Logs) (objects : List Object)
           lane (ltb-true lane (length logs) below)
       inside false past in_list =
           let beyond : length logs ≤ lane = search (arith, past) in
-          ap (own object) (of_lane-past logs lane beyond)
+          ap (own object) (log-past logs lane beyond)
           ∙ sym (numbered-past (length logs) lane 1 (history_of object logs) beyond
           (and-second _ _ (object-passes object has in_list)))
 

@@ -1,8 +1,8 @@
 -- A run is legal where what the check computes of it is what the run says.
-use Rattle.std.proofs.Common.{◌≡◌, inl, inr, ℕ, ◌*◌, ◌^◌, ◌<◌, List, [], ◌∷◌, length, Bool, true, false, refl, sym, ap}
+use Rattle.std.proofs.Common.{◌≡◌, inl, inr, ℕ, ◌*◌, ◌^◌, ◌<◌, List, [], ◌∷◌, length, Bool, true, refl, sym, ap}
 use Rattle.std.specs.Prelude.{◌⊎◌, ◌==◌, ◌||◌, ◌&&◌, nat_le, sum, map, take, drop, Option, Some, None, option_map, is_some}
 use Rattle.std.specs.List.{list_all}
-use Rattle.std.proofs.lemmas.Bool.{eqb-true, leb-true}
+use Rattle.std.proofs.lemmas.Bool.{eqb-true, leb-true, or_cases}
 use Rattle.size_classes.specs.Sizes.{IsPage, below, chunk_bytes}
 use Rattle.pool_law.specs.declared.note.Object.{Object}
 use Rattle.pool_law.specs.declared.note.Did.{Did}
@@ -178,13 +178,8 @@ wanted run = wanted_in run (logs_of run) (objects_of (logs_of run) []) (roots_of
 
 -- ---- A run is legal where the two are the same.
 
--- one of two tests that pass together
-either : (a b : Bool) → (a || b) ≡ true → (a ≡ true) ⊎ (b ≡ true)
-either true b e = inl refl
-either false b e = inr e
-
 page-passes : (page : ℕ) → page_passes page ≡ true → IsPage page
-page-passes page e = first (either (page == 4096) ((page == 8192) || ((page == 16384) || (page == 32768))) e)
+page-passes page e = first (or_cases (page == 4096) ((page == 8192) || ((page == 16384) || (page == 32768))) e)
   where
     last : ((page == 16384) ≡ true) ⊎ ((page == 32768) ≡ true) → IsPage page
     last (inl is) = inr (inr (inl (eqb-true page 16384 is)))
@@ -192,11 +187,11 @@ page-passes page e = first (either (page == 4096) ((page == 8192) || ((page == 1
 
     second : ((page == 8192) ≡ true) ⊎ (((page == 16384) || (page == 32768)) ≡ true) → IsPage page
     second (inl is) = inr (inl (eqb-true page 8192 is))
-    second (inr rest) = last (either (page == 16384) (page == 32768) rest)
+    second (inr rest) = last (or_cases (page == 16384) (page == 32768) rest)
 
     first : ((page == 4096) ≡ true) ⊎ (((page == 8192) || ((page == 16384) || (page == 32768))) ≡ true) → IsPage page
     first (inl is) = inl (eqb-true page 4096 is)
-    first (inr rest) = second (either (page == 8192) ((page == 16384) || (page == 32768)) rest)
+    first (inr rest) = second (or_cases (page == 8192) ((page == 16384) || (page == 32768)) rest)
 
 shape-passes : (s : Shape) → measures_pass s ≡ yes_to (measures_pass s) → IsShape s
 shape-passes s e = record {

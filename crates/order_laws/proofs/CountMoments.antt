@@ -13,8 +13,9 @@ use Rattle.pool_law.specs.Counts.{is_born, is_retain, is_release, ends_root}
 use Rattle.pool_law.specs.Legal.{one_if}
 use Rattle.pool_law.proofs.SameLemmas.{same_root-is}
 use Rattle.pool_law.proofs.PatternLemmas.{same_root-refl}
+use Rattle.pool_law.proofs.ListLemmas.{item-at}
 use Rattle.run_order.specs.Order.{Step, made, is_born_at, Leave, Fits, InOneOrder}
-use Rattle.run_order.proofs.Fronts.{item-at, made-next, made-more, made-found}
+use Rattle.run_order.proofs.Fronts.{made-next, made-more, made-found}
 use Rattle.run_order.proofs.Positions.{fits-there}
 use Rattle.order_laws.specs.Moments.{LivesWhileCounted}
 

@@ -1,5 +1,6 @@
 -- When events happen: their places in the one order.
 use Rattle.std.proofs.Common.{⊎_elim, inl, inr, ◌≡◌, ℕ, ◌≤◌, Bool, true, false, List, [], ◌∷◌, take, refl, sym, ap, subst, arith, Some, ◌∙◌, eqb-true, eq-eqb}
+use Rattle.std.proofs.lemmas.Option.{same_Some}
 use Rattle.std.specs.Prelude.{◌<◌, ◌⊎◌, ◌==◌, slice_get}
 use Rattle.pool_law.specs.declared.id.RootId.{RootId}
 use Rattle.pool_law.specs.declared.id.RegionId.{RegionId}
@@ -20,7 +21,6 @@ use Rattle.run_laws.specs.OneLog.{HasEnded, StandInOneLog}
 use Rattle.run_laws.proofs.PagedHistories.{HistoriesPaged, paged}
 use Rattle.run_laws.proofs.HandTotals.{note-placed}
 use Rattle.run_laws.proofs.OverlapLaw.{Reaches}
-use Rattle.run_laws.proofs.HandPairs.{compare, same-some}
 use Rattle.run_laws.proofs.Doings.{Does}
 use Rattle.run_laws.proofs.EventLaw.{same-begins}
 use Rattle.run_laws.proofs.Births.{use_event, use-does}
@@ -35,6 +35,7 @@ use Rattle.pool_law.proofs.PatternLemmas.{both_true, same_object-refl}
 use Rattle.pool_law.proofs.SameLemmas.{and-first, and-second, same_object-is}
 use Rattle.run_laws.proofs.Numbered.{in-history, rises-in_log}
 use Rattle.order_laws.specs.Moments.{is_noted}
+use Rattle.arena_laws.proofs.SlotLemmas.{three}
 
 -- the root's end is noted at its place
 abbrev pub is_end : RootId → Note → Bool
@@ -119,7 +120,7 @@ module _ (run : Run) (legal : IsLegal run) (o : InOneOrder (logs_of run)) where
       let j = in-history object logs (history_of object logs) (holds.whole object has) other bt number e t in
       let index : i.0 ≡ j.0 = omega (arith, i.1, j.1) in
       let both : ◌≡◌ {A = ℕ × Did} (lane, d) (other, e) =
-      same-some (lane, d) (other, e) (sym i.2 ∙ ap (slice_get (history_of object logs)) index ∙ j.2) in
+      same_Some (lane, d) (other, e) (sym i.2 ∙ ap (slice_get (history_of object logs)) index ∙ j.2) in
       let lanes : lane ≡ other = ap (λ (p : ℕ × Did). p.0) both in
       let dids_are : d ≡ e = ap (λ (p : ℕ × Did). p.1) both in
       let here : StandsAt logs lane bt (At object number d) =
@@ -137,7 +138,7 @@ module _ (run : Run) (legal : IsLegal run) (o : InOneOrder (logs_of run)) where
         rises-in_log object logs (history_of object logs) (holds.whole object has) lane bt at
             number number d d here s more,
       ))))
-      (compare at bt)
+      (three at bt)
     where
       holds : HistoriesPaged run.shape logs
       holds = paged run legal

@@ -1,9 +1,10 @@
 -- The logs of the lanes after a front of the steps, and sums over them.
-use Rattle.std.proofs.Common.{⊎_elim, ◌≡◌, ℕ, zero, suc, ◌+◌, ◌≤◌, Bool, true, false, List, [], ◌∷◌, ◌++◌, length, map, refl, sym, ap, subst, arith, Some, ◌∙◌, length-append, eqb-true, eq-eqb, ne_eqb}
+use Rattle.std.proofs.Common.{⊎_elim, ◌≡◌, ℕ, suc, ◌+◌, ◌≤◌, Bool, true, false, List, [], ◌∷◌, ◌++◌, length, map, refl, sym, ap, subst, arith, Some, ◌∙◌, eqb-true, eq-eqb, ne_eqb}
 use Rattle.std.specs.Prelude.{◌<◌, ◌==◌, if◌then◌else◌, slice_get, unwrap_or}
 use Rattle.std.proofs.lemmas.Bool.{cases_lt}
 use Rattle.std.specs.List.{list_all}
 use Rattle.std.proofs.lemmas.List.Folds.{list_all-append}
+use Rattle.std.proofs.lemmas.List.{length-map}
 use Rattle.size_classes.specs.Sizes.{below}
 use Rattle.pool_law.specs.declared.note.Object.{Object}
 use Rattle.pool_law.specs.declared.note.Object.TheVariants.{Mail}
@@ -15,38 +16,21 @@ use Rattle.pool_law.specs.Logs.{Logs, of_lane, note_stands}
 use Rattle.pool_law.specs.Mails.{MailHolds, MailsHold}
 use Rattle.pool_law.specs.Legal.{HistoriesHold}
 use Rattle.pool_law.proofs.SameLemmas.{and-first}
-use Rattle.pool_law.proofs.HistoryLemmas.{over_lanes, over-same, over-add}
+use Rattle.pool_law.proofs.HistoryLemmas.{over_lanes, over-same, over-add, log-past}
+use Rattle.pool_law.proofs.NumberLemmas.{length-below, get-below}
+use Rattle.pool_law.proofs.ListLemmas.{get-front, get-map}
 use Rattle.run_laws.specs.Parcels.{sum_up, PostsWithin}
 use Rattle.run_laws.proofs.Sums.{sum_by, sum_over}
 use Rattle.run_laws.proofs.Totals.{pick, over_lanes-none}
-use Rattle.run_laws.proofs.LogEntries.{get-map, lane-there, log-past}
+use Rattle.run_laws.proofs.LogEntries.{lane-there}
 use Rattle.run_laws.proofs.MailParcels.{one, sum_up-over}
-use Rattle.run_laws.proofs.RunLaws.{map-length}
 use Rattle.run_order.specs.Order.{Step, notes_by, made, InOneOrder}
-use Rattle.run_order.proofs.Fronts.{by-test, get-behind, get-front}
+use Rattle.run_order.proofs.Fronts.{by-test}
 use Rattle.run_order.proofs.Positions.{noted}
 use Rattle.order_laws.specs.Shares.{front}
 use Rattle.order_laws.proofs.MailMoments.{log-is, mails-in_front}
 
 -- ---- The numbers below another.
-
--- there are so many
-length-below : (n : ℕ) → length (below n) ≡ n
-length-below zero = refl
-length-below (suc n) = omega (arith, length-append (below n) (n ∷ []), length-below n)
-
--- each stands at its own place
-get-below : (n k : ℕ) → k < n → slice_get (below n) k ≡ Some k
-get-below zero k low = absurd (omega (arith, low))
-get-below (suc n) k low =
-    ⊎_elim
-    (λ less. get-front (below n) (n ∷ []) k k (get-below n k less))
-    (λ high.
-    let last : k ≡ n = omega (arith, low, high) in
-    ap (slice_get (below n ++ n ∷ [])) (last ∙ sym (length-below n))
-    ∙ get-behind (below n) n []
-    ∙ ap Some (sym last))
-    (cases_lt k n)
 
 -- ---- Sums over the logs of a front.
 
@@ -113,7 +97,7 @@ module _ (shape : Shape) (logs : Logs) (holds : HistoriesHold shape logs) (o : I
 
   -- there are as many logs as lanes
   pub front-length : length (front n before) ≡ n
-  front-length = map-length (λ lane. notes_by lane before) (below n) ∙ length-below n
+  front-length = length-map (below n) (λ lane. notes_by lane before) ∙ length-below n
 
   split : (lane : ℕ) → of_lane logs lane ≡ notes_by lane before ++ notes_by lane after
   split = log-is shape logs holds o before after is

@@ -2,9 +2,9 @@
 use Rattle.std.proofs.Common.{◌≡◌, ℕ, ◌≤◌, List, ◌++◌, length, take, refl, ap, subst, arith, ◌∙◌, length-append}
 use Rattle.pool_law.specs.declared.run.Run.{Run}
 use Rattle.pool_law.specs.Legal.{IsLegal, logs_of}
+use Rattle.pool_law.proofs.ListLemmas.{front-is}
 use Rattle.run_laws.proofs.HeadlineLaw.{headline-holds}
 use Rattle.run_order.specs.Order.{Step, InOneOrder}
-use Rattle.run_order.proofs.Fronts.{front-is}
 use Rattle.order_laws.specs.Moments.{Moment}
 use Rattle.order_laws.specs.HeadlineInOrder.{HeadlineInOrder}
 use Rattle.order_laws.proofs.CountMoments.{lives-at}

@@ -16,8 +16,9 @@ use Rattle.pool_law.specs.Logs.{Logs, of_lane, has_history, note_stands}
 use Rattle.pool_law.specs.Mails.{gone, come, posted, fetched, MailHolds}
 use Rattle.pool_law.specs.Legal.{HistoriesHold, one_if}
 use Rattle.pool_law.proofs.SameLemmas.{and-first, and-second, same_object-is}
+use Rattle.pool_law.proofs.ListLemmas.{item-at, get-front, front-is}
 use Rattle.run_order.specs.Order.{Step, notes_by, is_alike, is_post, is_sent, same_way, made, Fits, InOneOrder}
-use Rattle.run_order.proofs.Fronts.{by-test, item-at, get-front, front-is, made-next, made-more}
+use Rattle.run_order.proofs.Fronts.{by-test, made-next, made-more}
 use Rattle.run_order.proofs.HandOver.{made-together}
 use Rattle.run_order.proofs.MailLists.{posted-append, fetched-append}
 use Rattle.run_order.proofs.Positions.{fits-there, noted}

@@ -13,10 +13,11 @@ use Rattle.pool_law.specs.Logs.{Logs, History, dids, own, numbered, has_history,
 use Rattle.pool_law.specs.Legal.{IsLegal, logs_of, one_if}
 use Rattle.pool_law.proofs.SameLemmas.{same_object-is}
 use Rattle.pool_law.proofs.HistoryLemmas.{append-assoc, history_of-is}
+use Rattle.pool_law.proofs.ListLemmas.{get-behind}
 use Rattle.run_laws.specs.Reads.{last_written, earlier_at}
 use Rattle.run_laws.proofs.Written.{got-written}
 use Rattle.run_order.specs.Order.{Step, notes_by, is_at, made, Fits, InOneOrder}
-use Rattle.run_order.proofs.Fronts.{by-test, get-behind}
+use Rattle.run_order.proofs.Fronts.{by-test}
 use Rattle.run_order.proofs.Positions.{fits-there, made-alike, noted}
 use Rattle.order_laws.specs.Moments.{did_at, dids_at, GetsLastWritten}
 

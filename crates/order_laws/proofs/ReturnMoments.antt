@@ -18,6 +18,7 @@ use Rattle.pool_law.specs.Lives.{with_uses, Event, Stands, Happening, Happens, M
 use Rattle.pool_law.specs.Apart.{Before}
 use Rattle.pool_law.proofs.SameLemmas.{same_region-is}
 use Rattle.pool_law.proofs.PatternLemmas.{same_region-refl, same_taking-refl}
+use Rattle.pool_law.proofs.ListLemmas.{get-behind, front-is}
 use Rattle.run_laws.proofs.Doings.{Does, told, happens}
 use Rattle.run_laws.proofs.EventLaw.{the}
 use Rattle.run_laws.proofs.HandMoves.{growth-finds}
@@ -29,7 +30,6 @@ use Rattle.run_laws.proofs.TakingUses.{begins-use}
 use Rattle.run_laws.proofs.Births.{use_event, end_event}
 use Rattle.run_laws.proofs.RunLaws.{acts-of, parts-of, regions-live, regions-apart}
 use Rattle.run_order.specs.Order.{Step, made, InOneOrder}
-use Rattle.run_order.proofs.Fronts.{get-behind, front-is}
 use Rattle.run_order.proofs.Positions.{place, noted}
 use Rattle.order_laws.specs.Moments.{is_noted, is_return, HasGrownOut, ReturnsAfterEnd, HaveReturned, FindsReturned}
 use Rattle.order_laws.proofs.Events.{when, one-later, reaches-later, stands-made, made-stands, noted-itself, use-when, use-same, begun_when, uses-apart, ended-first}

@@ -8,10 +8,11 @@ use Rattle.pool_law.specs.declared.run.Run.{Run}
 use Rattle.pool_law.specs.Logs.{Logs, ToldNote, of_lane, entry_of, entries_of}
 use Rattle.pool_law.specs.Counts.{note_gains, note_loses, count_step, count_from, CountsHold, count_over, is_born, is_retain, is_release}
 use Rattle.pool_law.specs.Legal.{IsLegal, logs_of}
+use Rattle.pool_law.proofs.LogLemmas.{entry-note}
 use Rattle.run_laws.specs.CountLaw.{is_posted, is_fetched, counts_of}
 use Rattle.run_laws.specs.Parcels.{unfetched}
 use Rattle.run_laws.proofs.CountSums.{each-lane, sums}
-use Rattle.run_laws.proofs.LogEntries.{entry-note, entries-at}
+use Rattle.run_laws.proofs.LogEntries.{entries-at}
 use Rattle.run_laws.proofs.ParcelLaw.{count-notes, posted-left}
 use Rattle.run_laws.proofs.RunLaws.{logs-length, posts-are_near}
 use Rattle.run_order.specs.Order.{Step, notes_by, made, Leave, InOneOrder}

@@ -11,14 +11,11 @@ use Rattle.pool_law.specs.NotedHistories.{noted_dids}
 use Rattle.pool_law.specs.Logs.{Logs, History, own_note, own, numbered, IsHistory, of_lane, with_number, entry_at, notes_at, extended, history_from, history_of}
 use Rattle.std.proofs.lemmas.Bool.{cond_both}
 use Rattle.std.proofs.lemmas.List.{map-append}
+pub use Rattle.std.proofs.Common.{append-nil}
 
 pub append-assoc : {X : Type 0} (xs ys zs : List X) → (xs ++ ys) ++ zs ≡ xs ++ (ys ++ zs)
 append-assoc [] ys zs = refl
 append-assoc (x ∷ xs) ys zs = ap (λ t. x ∷ t) (append-assoc xs ys zs)
-
-pub append-nil : {X : Type 0} (xs : List X) → xs ++ [] ≡ xs
-append-nil [] = refl
-append-nil (x ∷ xs) = ap (λ t. x ∷ t) (append-nil xs)
 
 -- one more note is one more step
 pub after-push : {S : Type 0} (step : S → Did → Option S) (s : S) (ds : List Did) (d : Did) →
@@ -226,15 +223,16 @@ notes_at-over object h k [] are = refl
 notes_at-over object h k (log ∷ logs) are =
     omega (arith, ap length are.0, notes_at-over object h (k + 1) logs are.1)
 
-pub slice_get-beyond : (logs : Logs) (i : ℕ) → length logs ≤ i → of_lane logs i ≡ []
-slice_get-beyond [] i h = refl
-slice_get-beyond (x ∷ xs) zero h = absurd (omega arith)
-slice_get-beyond (x ∷ xs) (suc i) h = slice_get-beyond xs i (omega arith)
-
 pub get-after : (before : History) (e : ℕ × Did) (rest : History)
     → slice_get (before ++ e ∷ rest) (length before) ≡ Some e
 get-after [] e rest = refl
 get-after (x ∷ before) e rest = get-after before e rest
+
+-- a lane past the logs has no log
+pub log-past : {X : Type 0} (logs : List (List X)) (lane : ℕ) → length logs ≤ lane → of_lane logs lane ≡ []
+log-past [] lane h = refl
+log-past (x ∷ xs) zero h = absurd (omega arith)
+log-past (x ∷ xs) (suc lane) h = log-past xs lane (omega arith)
 
 module _ (object : Object) (logs : Logs) (h : History) (whole : IsHistory object logs h) where
   -- each note of a history is of a lane that has a log
@@ -242,7 +240,7 @@ module _ (object : Object) (logs : Logs) (h : History) (whole : IsHistory object
   lane-inside j e is =
       ⊎_elim (λ lt. lt)
       (λ beyond.
-      let empty : numbered e.0 1 h ≡ [] = sym (whole e.0) ∙ ap (own object) (slice_get-beyond logs e.0 beyond) in
+      let empty : numbered e.0 1 h ≡ [] = sym (whole e.0) ∙ ap (own object) (log-past logs e.0 beyond) in
       let found : with_number (1 + j) (numbered e.0 1 h) ≡ if_of e.0 e = with_number-at e.0 1 j h e is in
       let here : if_of e.0 e ≡ Some e.1 = (let same : (e.0 == e.0) ≡ true = eq-eqb e.0 e.0 refl in rw same refl) in
       let none : None ≡ Some e.1 = sym (ap (with_number (1 + j)) empty) ∙ found ∙ here in

@@ -1,14 +1,40 @@
 -- Consecutive numbers: each of them is listed once, and different ones are no more than they.
-use Rattle.std.proofs.Common.{◌≡◌, ℕ, zero, suc, ◌+◌, ◌<◌, ◌≤◌, ⊎_elim, List, [], ◌∷◌, ◌++◌, length, refl, ap, arith, Bool, true, false, nat_eq, ◌∙◌, length-append}
-use Rattle.std.specs.Prelude.{◌==◌, ◌||◌, map}
+use Rattle.std.proofs.Common.{◌≡◌, ℕ, zero, suc, ◌+◌, ◌<◌, ◌≤◌, ⊎_elim, List, [], ◌∷◌, ◌++◌, length, refl, sym, ap, arith, Bool, true, false, nat_eq, Some, ◌∙◌, length-append}
+use Rattle.std.specs.Prelude.{◌==◌, ◌||◌, not, if◌then◌else◌, map, slice_get}
 use Rattle.std.specs.List.{IsDistinct, list_any}
-use Rattle.std.proofs.lemmas.Bool.{cases_Bool, eqb-false}
+use Rattle.std.specs.Ordering.{nat_cmp, is_eq}
+use Rattle.std.proofs.lemmas.Bool.{cases_lt, cases_Bool, eqb-false}
 use Rattle.std.proofs.lemmas.Bool.Decides.{nat_tests}
 use Rattle.std.proofs.lemmas.Cmp.{nat_eq_equiv}
 use Rattle.std.proofs.lemmas.List.{map-append}
 use Rattle.std.proofs.lemmas.List.Folds.{list_any-append}
 use Rattle.std.proofs.lemmas.Map.Made.{length-le_from_is_member}
 use Rattle.size_classes.specs.Sizes.{below}
+use Rattle.pool_law.specs.ChunkLists.{has, without}
+use Rattle.pool_law.proofs.ListLemmas.{get-front, get-behind}
+
+-- there are so many numbers below another
+pub length-below : (n : ℕ) → length (below n) ≡ n
+length-below zero = refl
+length-below (suc n) = omega (arith, length-append (below n) (n ∷ []), length-below n)
+
+-- each stands at its own place
+pub get-below : (n k : ℕ) → k < n → slice_get (below n) k ≡ Some k
+get-below zero k low = absurd (omega (arith, low))
+get-below (suc n) k low =
+    ⊎_elim
+    (λ less. get-front (below n) (n ∷ []) k k (get-below n k less))
+    (λ high.
+    let last : k ≡ n = omega (arith, low, high) in
+    ap (slice_get (below n ++ n ∷ [])) (last ∙ sym (length-below n))
+    ∙ get-behind (below n) n []
+    ∙ ap Some (sym last))
+    (cases_lt k n)
+
+-- no numbers differ
+pub none_distinct : IsDistinct nat_eq []
+unfolding IsDistinct
+none_distinct = tt
 
 -- n numbers from the first on
 abbrev pub numbers : ℕ → ℕ → List ℕ
@@ -54,6 +80,10 @@ not-listed first (suc n) m le =
     apart : (a b : ℕ) → a < b → (a == b) ≡ false
     apart a b lt = grind (arith, nat_tests)
 
+-- numbers are equal where an order finds them so
+pub is_eq-nat : (a b : ℕ) → is_eq (nat_cmp a b) ≡ (a == b)
+is_eq-nat a b = grind (arith, nat_tests)
+
 -- the number is listed, whichever way the test is asked
 pub listed-turned : (p : ℕ) (xs : List ℕ) → list_any (nat_eq p) xs ≡ list_any (λ q. q == p) xs
 listed-turned p [] = refl
@@ -68,3 +98,15 @@ different-within first n xs different within =
     length-le_from_is_member nat_eq_equiv xs (numbers first n) different
     (λ q there. listed first n q (within q there).0 (within q there).1) in
     omega (arith, most, length-numbers first n)
+
+-- a number that has left the list is not in it
+pub has-without : (c : ℕ) (xs : List ℕ) → has c (without c xs) ≡ false
+has-without c [] = refl
+has-without c (x ∷ xs) = go (x == c) refl (has-without c xs)
+  where
+    go : (b : Bool) → (x == c) ≡ b → has c (without c xs) ≡ false → has c (without c (x ∷ xs)) ≡ false
+    go true is rest = ap (λ b. has c (if not b then x ∷ without c xs else without c xs)) is ∙ rest
+    go false is rest =
+        ap (λ b. has c (if not b then x ∷ without c xs else without c xs)) is
+        ∙ ap (λ b. b || has c (without c xs)) is
+        ∙ rest

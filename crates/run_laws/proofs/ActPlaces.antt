@@ -1,30 +1,17 @@
 -- Where an act stands in a log.
-use Rattle.std.proofs.Common.{⊎_elim, inl, inr, ◌≡◌, ℕ, zero, suc, ◌+◌, List, [], ◌∷◌, ◌++◌, length, refl, sym, ap, subst, arith, Some, ◌∙◌}
+use Rattle.std.proofs.Common.{⊎_elim, ◌≡◌, ℕ, suc, ◌+◌, List, [], ◌∷◌, ◌++◌, length, refl, sym, ap, subst, arith, Some, ◌∙◌, append-nil}
 use Rattle.std.specs.Prelude.{◌⊎◌, ◌<◌, slice_get}
 use Rattle.pool_law.specs.declared.note.Object.{Object}
 use Rattle.pool_law.specs.declared.note.Did.{Did}
 use Rattle.pool_law.specs.Logs.{ToldNote}
 use Rattle.pool_law.specs.Readers.{ToldNotes}
-use Rattle.pool_law.proofs.HistoryLemmas.{append-nil}
+use Rattle.pool_law.proofs.ListLemmas.{get-front, get-split}
 use Rattle.run_laws.proofs.Acts.{Act, act_notes, all_notes, Acts}
-
-pub get-front : {X : Type 0} (xs ys : List X) (j : ℕ) (x : X) → slice_get xs j ≡ Some x
-    → slice_get (xs ++ ys) j ≡ Some x
-get-front [] ys j x e = absurd (cc e)
-get-front (y ∷ xs) ys zero x e = e
-get-front (y ∷ xs) ys (suc j) x e = get-front xs ys j x e
 
 pub get-behind : {X : Type 0} (xs ys : List X) (j : ℕ) (x : X) → slice_get ys j ≡ Some x
     → (m : ℕ) × (slice_get (xs ++ ys) m ≡ Some x)
 get-behind [] ys j x e = (j, e)
 get-behind (y ∷ xs) ys j x e = let r = get-behind xs ys j x e in (suc r.0, r.1)
-
-pub get-split : {X : Type 0} (xs ys : List X) (i : ℕ) (x : X) → slice_get (xs ++ ys) i ≡ Some x
-    → (slice_get xs i ≡ Some x) ⊎ ((m : ℕ) × (i ≡ length xs + m) × (slice_get ys m ≡ Some x))
-get-split [] ys i x e = inr (i, omega arith, e)
-get-split (y ∷ xs) ys zero x e = inl e
-get-split (y ∷ xs) ys (suc i) x e =
-    ⊎_elim (λ here. inl here) (λ m. inr (m.0, omega (arith, m.1), m.2)) (get-split xs ys i x e)
 
 module _ (P : Object → Did → Type 0) where
   -- where an entry stands in an act, each of the act's entries does, in order

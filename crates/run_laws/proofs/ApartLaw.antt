@@ -22,13 +22,13 @@ use Rattle.pool_law.proofs.SameLemmas.{same_region-is}
 use Rattle.pool_law.proofs.PatternLemmas.{same_taking-refl, both_true}
 use Rattle.run_laws.proofs.LogEntries.{LanesAct}
 use Rattle.arena_laws.proofs.ReturnLaw.{comes-back, after-append}
+use Rattle.arena_laws.proofs.SlotLemmas.{three}
 use Rattle.run_laws.proofs.Placed.{is-some}
 use Rattle.run_laws.proofs.Totals.{births_in}
 use Rattle.run_laws.proofs.LifeLaw.{taken-of}
 use Rattle.run_laws.proofs.EventLaw.{done-at, begins-in}
 use Rattle.run_laws.proofs.Births.{use_event, use-does}
 use Rattle.run_laws.proofs.Owners.{taken-at}
-use Rattle.run_laws.proofs.HandPairs.{compare}
 
 pub split-at : (ds : List Did) (j : ℕ) (y : Did) → slice_get ds j ≡ Some y
     → (between rest : List Did) × (ds ≡ (between ++ y ∷ []) ++ rest)
@@ -176,4 +176,4 @@ module _ (shape : Shape) (logs : Logs) (holds : HistoriesPaged shape logs) (acts
           (λ less. inr (inr (one-way a.place.arena b a tb.0 ta.0 over.arena refl tb_a ta.1 less
           (record { arena = sym over.arena; chunk = sym over.chunk; first = over.second; second = over.first }))))
           o)
-          (compare ta.0 tb.0)
+          (three ta.0 tb.0)

@@ -11,13 +11,13 @@ use Rattle.pool_law.specs.Roots.{RootPlace, Present}
 use Rattle.pool_law.specs.Histories.{place_after}
 use Rattle.pool_law.specs.Logs.{Logs, dids, of_lane, history_of}
 use Rattle.pool_law.specs.Lives.{Done, Event, Begins, Leaves, IsUse, UseEnds}
+use Rattle.pool_law.proofs.LogLemmas.{dids-at}
 use Rattle.run_laws.specs.OneLog.{IsBirth}
 use Rattle.run_laws.proofs.PagedHistories.{HistoriesPaged}
 use Rattle.run_laws.proofs.LogEntries.{LanesAct}
 use Rattle.run_laws.proofs.Numbered.{in-history}
 use Rattle.run_laws.proofs.Placed.{is-some, take-get, born-at, end-birth}
 use Rattle.run_laws.proofs.PlaceLaw.{was-born}
-use Rattle.run_laws.proofs.Totals.{dids-at}
 use Rattle.run_laws.proofs.HandTotals.{note-placed}
 use Rattle.run_laws.proofs.Doings.{Does, told}
 use Rattle.run_laws.proofs.EventLaw.{done-at}

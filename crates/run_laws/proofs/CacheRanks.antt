@@ -11,7 +11,7 @@ use Rattle.pool_law.specs.Histories.{after, cache_after}
 use Rattle.run_laws.specs.CacheCounts.{one_of, times, puts, removes, total_by}
 use Rattle.run_laws.proofs.CacheLaw.{if-some, cache_step-balances, goes-through}
 use Rattle.run_laws.proofs.Placed.{step-at, take-get, puts-kept}
-use Rattle.run_laws.proofs.HandPairs.{compare}
+use Rattle.arena_laws.proofs.SlotLemmas.{three}
 
 pub one-most : (b : Bool) → one_of b ≤ 1
 one-most true = omega arith
@@ -74,7 +74,7 @@ pub rank-one : (f : Did → ℕ) (ds : List Did) (j k : ℕ) (d e : Did) → sli
 rank-one f ds j k d e is it a b same =
     ⊎_elim (λ less. absurd (omega (arith, total-before f ds j k d is less, a, same)))
     (λ o. ⊎_elim (λ equal. equal)
-    (λ more. absurd (omega (arith, total-before f ds k j e it more, b, same))) o) (compare j k)
+    (λ more. absurd (omega (arith, total-before f ds k j e it more, b, same))) o) (three j k)
 
 pub take-take : {X : Type 0} (xs : List X) (j k : ℕ) → j < k → take j (take k xs) ≡ take j xs
 take-take [] zero zero less = refl

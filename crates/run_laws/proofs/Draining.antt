@@ -17,6 +17,7 @@ use Rattle.run_laws.proofs.Acts.{sum_notes, notes-append, IsOther, Less}
 use Rattle.run_laws.proofs.Readings.{bind-some, note-read, give_back-read}
 use Rattle.run_laws.proofs.Keeping.{Chains, Keeps}
 use Rattle.run_laws.proofs.LaneActs.{OfCommands}
+use Rattle.run_laws.proofs.Sums.{none-if}
 
 abbrev pub many : ℕ → ℕ → ℕ
 many zero w = 0
@@ -109,10 +110,6 @@ abbrev pub close_one : Did → ℕ
 close_one (Close q) = 1
 close_one _ = 0
 
-pub zero-if : (b : Bool) → ◌≡◌ {A = ℕ} (if b then 0 else 0) 0
-zero-if true = refl
-zero-if false = refl
-
 pub many-if : (b : Bool) (q : ℕ) → (if b then q else 0) ≡ many q (if b then 1 else 0)
 many-if true q = sym (many-one q)
 many-if false q = sym (many-none q)
@@ -159,18 +156,18 @@ drain-even o lane kind grants (class ∷ classes) log p is =
     let g : sum_notes (at_object o (plain grant)) log.left
     ≡ (if same_object o (Object.Cache lane class) then d.quota.0 else 0)
     + (many d.quota.0 0 + sum_notes (at_object o (plain grant)) d.shed.1.left) =
-    drained-sum (at_object o (plain grant)) (λ other k r. zero-if (same_object o other)) lane class 0
-    (λ k r. zero-if (same_object o (Object.Cache lane class))) kind
+    drained-sum (at_object o (plain grant)) (λ other k r. none-if (same_object o other)) lane class 0
+    (λ k r. none-if (same_object o (Object.Cache lane class))) kind
     (λ q. if same_object o (Object.Cache lane class) then q else 0)
     (λ x k q e. ap (λ n. if same_object o (Object.Cache lane class) then n else 0) (grants x q e).0) log d.quota d.shed
     d.noted d.sheds_it in
     let s : sum_notes (at_object o (plain shed_one)) log.left
     ≡ 0 + (many d.quota.0 (if same_object o (Object.Cache lane class) then 1 else 0) + sum_notes
     (at_object o (plain shed_one)) d.shed.1.left) =
-    drained-sum (at_object o (plain shed_one)) (λ other k r. zero-if (same_object o other)) lane class
+    drained-sum (at_object o (plain shed_one)) (λ other k r. none-if (same_object o other)) lane class
     (if same_object o (Object.Cache lane class) then 1 else 0) (λ k r. refl) kind (λ q. 0)
     (λ x k q e. ap (λ n. if same_object o (Object.Cache lane class) then n else 0) (grants x q e).1
-    ∙ zero-if (same_object o (Object.Cache lane class))) log d.quota d.shed d.noted d.sheds_it in
+    ∙ none-if (same_object o (Object.Cache lane class))) log d.quota d.shed d.noted d.sheds_it in
     omega (
       arith,
       g,
@@ -192,8 +189,8 @@ closing-closes lane class self (other ∷ classes) log p is one_of =
     ≡ (if same_object (Object.Cache lane class) (Object.Cache lane other) then 1 else 0)
     + (many d.quota.0 0 + sum_notes (at_object (Object.Cache lane class) (plain close_one)) d.shed.1.left) =
     drained-sum (at_object (Object.Cache lane class) (plain close_one))
-    (λ o k r. zero-if (same_object (Object.Cache lane class) o)) lane other 0
-    (λ k r. zero-if (same_object (Object.Cache lane class) (Object.Cache lane other)))
+    (λ o k r. none-if (same_object (Object.Cache lane class) o)) lane other 0
+    (λ k r. none-if (same_object (Object.Cache lane class) (Object.Cache lane other)))
     says.close (λ q. if same_object (Object.Cache lane class) (Object.Cache lane other) then 1 else 0) closed log
     d.quota d.shed d.noted d.sheds_it in
     go one_of (many d.quota.0 0) (sum_notes (at_object (Object.Cache lane class) (plain close_one)) log.left)

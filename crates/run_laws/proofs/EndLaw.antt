@@ -22,11 +22,13 @@ use Rattle.run_laws.specs.OneLog.{IsBirth}
 use Rattle.run_laws.specs.Conserved.{total_in}
 use Rattle.run_laws.specs.CacheCounts.{total_by}
 use Rattle.pool_law.specs.Counts.{count_in, count_over, ends_root, is_birth, is_born, TotalHolds}
-use Rattle.run_laws.proofs.LogEntries.{entry-note, LanesAct, log-most, sum-entries, log-past, logs-less, sums-less}
+use Rattle.run_laws.proofs.LogEntries.{LanesAct, log-most, sum-entries, logs-less, sums-less}
 use Rattle.run_laws.proofs.Acts.{IsOther, Less}
 use Rattle.run_laws.proofs.LaneActs.{AnyNote}
 use Rattle.pool_law.proofs.SameLemmas.{same_root-is}
 use Rattle.pool_law.proofs.PatternLemmas.{same_root-refl}
+use Rattle.pool_law.proofs.HistoryLemmas.{log-past}
+use Rattle.pool_law.proofs.LogLemmas.{entry-note}
 use Rattle.run_laws.proofs.Sums.{below-or, over-none, sum_by, sum_over, over-at, over-one, over-found}
 use Rattle.run_laws.proofs.Numbered.{plain, total-plain, at_object, regroup}
 use Rattle.run_laws.proofs.HandTotals.{note-placed}

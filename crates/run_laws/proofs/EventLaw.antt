@@ -1,5 +1,6 @@
 -- Events that move regions: how they count, and that one that counts once is one.
 use Rattle.std.proofs.Common.{⊎_elim, inl, inr, ◌≡◌, ℕ, ◌+◌, ◌≤◌, refl, sym, ap, subst, arith, true, Some, ◌∙◌}
+use Rattle.std.proofs.lemmas.Option.{same_Some}
 use Rattle.std.specs.Prelude.{Option, slice_get}
 use Rattle.pool_law.specs.declared.id.RootId.{RootId}
 use Rattle.pool_law.specs.declared.id.RegionId.{RegionId}
@@ -14,17 +15,18 @@ use Rattle.pool_law.specs.Lives.{StandsAt, Done, Event, Stands, arena_of, Begins
 use Rattle.run_laws.specs.CacheCounts.{one_of}
 use Rattle.run_laws.specs.HandCounts.{one_same, ended_by, given_by}
 use Rattle.pool_law.proofs.PatternLemmas.{same_region-refl}
+use Rattle.pool_law.proofs.LogLemmas.{dids-at}
 use Rattle.run_laws.proofs.PagedHistories.{HistoriesPaged}
 use Rattle.run_laws.proofs.LogEntries.{LanesAct}
 use Rattle.run_laws.proofs.Sums.{sum_over, over-at, over-place}
 use Rattle.run_laws.proofs.Numbered.{in-history, in-log, rises-in_log}
-use Rattle.run_laws.proofs.Totals.{dids-at, dids-there, note_tally, born_by, takes, takes_in, gives_in, births_in, ends_in}
+use Rattle.run_laws.proofs.Totals.{dids-there, note_tally, born_by, takes, takes_in, gives_in, births_in, ends_in}
 use Rattle.run_laws.proofs.HandTotals.{note-placed, takes-most, given-total}
 use Rattle.run_laws.proofs.HandSteps.{EndsUse}
-use Rattle.run_laws.proofs.HandPairs.{compare, same-some}
 use Rattle.run_laws.proofs.CacheRanks.{total-inside, total-before}
 use Rattle.run_laws.proofs.Doings.{Does, left-region}
 use Rattle.run_laws.proofs.LifeLaw.{born-most, ends-most_of, given-most}
+use Rattle.arena_laws.proofs.SlotLemmas.{three}
 
 -- a note as an event
 abbrev pub the : {logs : Logs} {object : Object} {did : Did} → Done logs object did → Event
@@ -33,7 +35,7 @@ the {object = object} {did = did} d = record { object = object; did = did; lane 
 -- a note is one thing
 pub one-note : (logs : Logs) (lane i : ℕ) (n m : Note) → slice_get (of_lane logs lane) i ≡ Some n
     → slice_get (of_lane logs lane) i ≡ Some m → n ≡ m
-one-note logs lane i n m e d = same-some n m (sym e ∙ d)
+one-note logs lane i n m e d = same_Some n m (sym e ∙ d)
 
 -- two events at one place of a log are one
 pub same-event : (logs : Logs) (e f : Event) → Stands logs e → Stands logs f → e.lane ≡ f.lane → e.at ≡ f.at → e ≡ f
@@ -142,7 +144,7 @@ module _ (shape : Shape) (logs : Logs) (holds : HistoriesPaged shape logs) (acts
         rises-in_log e.object logs (history_of e.object logs) (holds.whole e.object has) e.lane f.at e.at f.number
             e.number f.did e.did there s more,
       ))) o)
-      (compare e.at f.at))
+      (three e.at f.at))
 
   -- what begins and what leaves a region counts
   pub begins-in : (root : RootId) (r : RegionId) (e : Event) → Stands logs e → Does logs (Begins root r) e
@@ -240,4 +242,4 @@ module _ (shape : Shape) (logs : Logs) (holds : HistoriesPaged shape logs) (acts
         takes-most shape logs holds acts r,
         ap one_of (same_region-refl r),
       ))) o)
-      (compare m.index n.index))
+      (three m.index n.index))

@@ -1,5 +1,6 @@
 -- Why regions of live roots that overlap are refused.
 use Rattle.std.proofs.Common.{⊎_elim, inl, inr, ◌≡◌, ℕ, zero, suc, ◌≤◌, List, [], ◌∷◌, refl, sym, ap, subst, arith, Some, ◌∙◌}
+use Rattle.std.proofs.lemmas.Option.{same_Some}
 use Rattle.std.specs.Prelude.{◌⊎◌, ◌<◌, slice_get}
 use Rattle.pool_law.specs.declared.id.RootId.{RootId}
 use Rattle.pool_law.specs.declared.id.RegionId.{RegionId}
@@ -13,7 +14,6 @@ use Rattle.pool_law.specs.Lives.{Event, Stands, InOneLog, AtOneObject, Move, Tak
 use Rattle.pool_law.specs.Apart.{Leads, NeverOverlap}
 use Rattle.run_laws.proofs.Sums.{below-or}
 use Rattle.run_laws.specs.Refused.{first_taking, second_taking, byte_root, given_while_live}
-use Rattle.run_laws.proofs.HandPairs.{same-some}
 
 -- the forged notes from the first root's end on, by what they move: of roots only that one leaves its region; and
 -- those before it, by which none does
@@ -95,34 +95,34 @@ late-at zero (suc (suc (suc (suc (suc zero))))) n e from = absurd (omega (arith,
 late-at zero (suc (suc (suc (suc (suc (suc zero)))))) n e from = absurd (omega (arith, from))
 late-at zero (suc (suc (suc (suc (suc (suc (suc zero))))))) n e from = absurd (omega (arith, from))
 late-at zero (suc (suc (suc (suc (suc (suc (suc (suc zero)))))))) n e from =
-    subst (Says IsLate IsLateMove) (same-some _ n e) (inl (refl, omega arith), late-end)
+    subst (Says IsLate IsLateMove) (same_Some _ n e) (inl (refl, omega arith), late-end)
 late-at zero (suc (suc (suc (suc (suc (suc (suc (suc (suc zero))))))))) n e from =
-    subst (Says IsLate IsLateMove) (same-some _ n e) tt
+    subst (Says IsLate IsLateMove) (same_Some _ n e) tt
 late-at zero (suc (suc (suc (suc (suc (suc (suc (suc (suc (suc zero)))))))))) n e from =
-    subst (Says IsLate IsLateMove) (same-some _ n e) (inr refl, late-kept 1)
+    subst (Says IsLate IsLateMove) (same_Some _ n e) (inr refl, late-kept 1)
 late-at zero (suc (suc (suc (suc (suc (suc (suc (suc (suc (suc (suc zero))))))))))) n e from =
-    subst (Says IsLate IsLateMove) (same-some _ n e) (inr refl, late-close 2)
+    subst (Says IsLate IsLateMove) (same_Some _ n e) (inr refl, late-close 2)
 late-at zero (suc (suc (suc (suc (suc (suc (suc (suc (suc (suc (suc (suc zero)))))))))))) n e from =
-    subst (Says IsLate IsLateMove) (same-some _ n e) (inr refl, late-shed 3)
+    subst (Says IsLate IsLateMove) (same_Some _ n e) (inr refl, late-shed 3)
 late-at zero (suc (suc (suc (suc (suc (suc (suc (suc (suc (suc (suc (suc (suc i))))))))))))) n e from = absurd (cc e)
 
 early-at : (lane i : ℕ) (n : Note) → slice_get (of_lane given_while_live lane) i ≡ Some n → i < 8
     → Says IsEarly IsEarlyMove n
 early-at (suc lane) i n e to = absurd (cc e)
-early-at zero zero n e to = subst (Says IsEarly IsEarlyMove) (same-some _ n e) (inl refl, early-take 1 (first_taking 0))
-early-at zero (suc zero) n e to = subst (Says IsEarly IsEarlyMove) (same-some _ n e)
+early-at zero zero n e to = subst (Says IsEarly IsEarlyMove) (same_Some _ n e) (inl refl, early-take 1 (first_taking 0))
+early-at zero (suc zero) n e to = subst (Says IsEarly IsEarlyMove) (same_Some _ n e)
     (inr (inl (refl, omega arith)), early-birth 0 1 (byte_root 0) (first_taking 1))
-early-at zero (suc (suc zero)) n e to = subst (Says IsEarly IsEarlyMove) (same-some _ n e) tt
+early-at zero (suc (suc zero)) n e to = subst (Says IsEarly IsEarlyMove) (same_Some _ n e) tt
 early-at zero (suc (suc (suc zero))) n e to =
-    subst (Says IsEarly IsEarlyMove) (same-some _ n e) (inl refl, early-given 2 (first_taking 0))
+    subst (Says IsEarly IsEarlyMove) (same_Some _ n e) (inl refl, early-given 2 (first_taking 0))
 early-at zero (suc (suc (suc (suc zero)))) n e to =
-    subst (Says IsEarly IsEarlyMove) (same-some _ n e) (inl refl, early-take 3 (second_taking 0))
+    subst (Says IsEarly IsEarlyMove) (same_Some _ n e) (inl refl, early-take 3 (second_taking 0))
 early-at zero (suc (suc (suc (suc (suc zero))))) n e to =
-    subst (Says IsEarly IsEarlyMove) (same-some _ n e)
+    subst (Says IsEarly IsEarlyMove) (same_Some _ n e)
     (inr (inr refl), early-birth 1 1 (byte_root 1) (second_taking 1))
-early-at zero (suc (suc (suc (suc (suc (suc zero)))))) n e to = subst (Says IsEarly IsEarlyMove) (same-some _ n e) tt
+early-at zero (suc (suc (suc (suc (suc (suc zero)))))) n e to = subst (Says IsEarly IsEarlyMove) (same_Some _ n e) tt
 early-at zero (suc (suc (suc (suc (suc (suc (suc zero))))))) n e to =
-    subst (Says IsEarly IsEarlyMove) (same-some _ n e) tt
+    subst (Says IsEarly IsEarlyMove) (same_Some _ n e) tt
 early-at zero (suc (suc (suc (suc (suc (suc (suc (suc i)))))))) n e to = absurd (omega (arith, to))
 
 -- no object has a late note with a number below that of an early one

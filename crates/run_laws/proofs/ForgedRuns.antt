@@ -1,5 +1,5 @@
 -- Why the laws refuse runs that no pool makes.
-use Rattle.std.proofs.Common.{inl, inr, ◌≡◌, ℕ, ◌+◌, List, [], ◌∷◌, length, get_or, refl, sym, ap, subst, arith, Some, ◌∙◌}
+use Rattle.std.proofs.Common.{inl, inr, ◌≡◌, ℕ, ◌+◌, List, [], ◌∷◌, length, get_or, refl, sym, ap, subst, arith, Some, ◌∙◌, append-nil}
 use Rattle.std.specs.Prelude.{false, Option, None}
 use Rattle.pool_law.specs.declared.command.Command.{Command}
 use Rattle.pool_law.specs.declared.note.Object.{Object}
@@ -12,13 +12,12 @@ use Rattle.pool_law.specs.Logs.{ToldNote, own, numbered, of_lane, entry_of, entr
 use Rattle.pool_law.specs.LaneStates.{LaneState}
 use Rattle.pool_law.specs.LaneLaw.{IsLaneLog}
 use Rattle.pool_law.specs.Legal.{logs_of, replies_of}
-use Rattle.pool_law.proofs.HistoryLemmas.{append-nil}
+use Rattle.pool_law.proofs.LogLemmas.{entry-note}
 use Rattle.run_laws.specs.Reads.{last_written, earlier_at, get_note, parts_read, joined, GetsPart, GetsParts, ReadsWritten, ReadsGiveWritten}
 use Rattle.run_laws.specs.Reported.{ComesBefore, ListsLeaks}
 use Rattle.run_laws.specs.Headline.{Headline}
 use Rattle.run_laws.specs.Refused.{front_place, byte_root}
 use Rattle.run_laws.specs.RefusedRuns.{byte_leak, stale, swapped, read_early, set_unnoted, read_past, touched, leaks_turned}
-use Rattle.run_laws.proofs.LogEntries.{entry-note}
 
 pub stale-read : ReadsGiveWritten stale → ⊥
 stale-read reads = go (reads 0 3 (Command.Get 0 0 1 false) (0 ∷ []) refl refl)

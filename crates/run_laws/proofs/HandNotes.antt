@@ -1,5 +1,6 @@
 -- What a lane has in hand, from one note of its log to another.
 use Rattle.std.proofs.Common.{⊎_elim, ◌≡◌, ℕ, sym, ap, subst, Some, None, ◌∙◌}
+use Rattle.std.proofs.lemmas.Option.{same_Some}
 use Rattle.std.specs.Prelude.{◌<◌, map, slice_get}
 use Rattle.pool_law.specs.declared.id.RegionId.{RegionId}
 use Rattle.pool_law.specs.declared.note.Object.{Object}
@@ -7,11 +8,13 @@ use Rattle.pool_law.specs.declared.note.Did.{Did}
 use Rattle.pool_law.specs.declared.note.Note.{Note}
 use Rattle.pool_law.specs.declared.note.Note.TheVariants.{At, Ref, Busy}
 use Rattle.pool_law.specs.Logs.{Logs, ToldNote, of_lane, entry_of}
+use Rattle.pool_law.proofs.ListLemmas.{get-map, map-get}
+use Rattle.pool_law.proofs.LogLemmas.{entry-note}
 use Rattle.run_laws.specs.Hands.{did_of, Source, Hand, hand_after}
-use Rattle.run_laws.proofs.LogEntries.{LanesAct, entry-note, get-map, map-get}
+use Rattle.run_laws.proofs.LogEntries.{LanesAct}
 use Rattle.run_laws.proofs.HandLaw.{acts-hand}
 use Rattle.run_laws.proofs.LaneActs.{AnyNote}
-use Rattle.run_laws.proofs.HandPairs.{Pair, same-some, Onward, pair-from, pair-to, one-out}
+use Rattle.run_laws.proofs.HandPairs.{Pair, Onward, pair-from, pair-to, one-out}
 use Rattle.run_laws.proofs.HandSteps.{Fills, Empties, IsIn, IsOut}
 
 -- the same in a log: what a lane has in hand, from one note to another
@@ -30,7 +33,7 @@ pub record Held (logs : Logs) (lane i k : ℕ) (from : Source) (y : RegionId) : 
   pub pair : Pair (map (entry_of logs) (of_lane logs lane)) i k from y
 
 pub note-did : (n : Note) (d : Did) → did_of n ≡ Some d → (o : Object) × (k : ℕ) × (n ≡ At o k d)
-note-did (At o k x) d e = (o, k, ap (At o k) (same-some x d e))
+note-did (At o k x) d e = (o, k, ap (At o k) (same_Some x d e))
 note-did (Ref root x) d e = absurd (cc e)
 note-did (Busy held) d e = absurd (cc e)
 
@@ -92,7 +95,7 @@ module _ (logs : Logs) (acts : LanesAct logs) (lane : ℕ) where
         r.region,
         h,
         subst (FillsBy r.from r.region)
-            (same-some (At h.into_object h.into_number h.into) (At o k d) (sym h.into_is ∙ is)) h.fills,
+            (same_Some (At h.into_object h.into_number h.into) (At o k d) (sym h.into_is ∙ is)) h.fills,
       )
 
   pub held-to : (i k : ℕ) (o : Object) (d : Did) → slice_get (of_lane logs lane) i ≡ Some (At o k d) → IsOut d
@@ -108,7 +111,7 @@ module _ (logs : Logs) (acts : LanesAct logs) (lane : ℕ) where
         before.region,
         h,
         subst (EmptiesBy before.from before.region)
-            (same-some (At h.out_object h.out_number h.out) (At o k d) (sym h.out_is ∙ is)) h.empties,
+            (same_Some (At h.out_object h.out_number h.out) (At o k d) (sym h.out_is ∙ is)) h.empties,
       ))
       (pair-to (map (entry_of logs) (of_lane logs lane)) None i (entry_of logs (At o k d)) d empty
       (get-map (entry_of logs) (of_lane logs lane) i (At o k d) is) (entry-did o k d) kind)

@@ -1,10 +1,12 @@
 -- What comes into a lane's hand goes out of it with the next note that moves a region.
 use Rattle.std.proofs.Common.{⊎_elim, inl, inr, ◌≡◌, ℕ, zero, suc, [], ◌∷◌, refl, sym, ap, subst, arith, Bool, true, false, Some, None, ◌∙◌}
 use Rattle.std.specs.Prelude.{◌⊎◌, ◌<◌, slice_get}
+use Rattle.std.proofs.lemmas.Option.{same_Some}
 use Rattle.pool_law.specs.declared.id.RegionId.{RegionId}
 use Rattle.pool_law.specs.declared.note.Did.{Did}
 use Rattle.pool_law.specs.Logs.{ToldNote}
 use Rattle.pool_law.specs.Readers.{ToldNotes}
+use Rattle.arena_laws.proofs.SlotLemmas.{three}
 use Rattle.run_laws.specs.Hands.{did_of, Source, Hand, hand_step, hand_after}
 use Rattle.run_laws.proofs.HandSteps.{Fills, Empties, moving, IsIn, IsOut, InOf, OutOf, empties-move, Filled, Emptied, from-empty, from-full, in-moves, out-moves}
 use Rattle.run_laws.proofs.Readings.{bind-some}
@@ -68,9 +70,6 @@ next-out (e ∷ es) from y h =
     below zero x quiet r less is = let same : e ≡ x = cc is in ap (λ y. moving (did_of y.note)) (sym same) ∙ quiet
     below (suc m) x quiet r less is = r.still m x (omega (arith, less)) is
 
-pub compare : (a b : ℕ) → (a < b) ⊎ ((a ≡ b) ⊎ (b < a))
-compare a b = grind arith
-
 -- behind an entry
 pub later-pair : (e : ToldNote) (es : ToldNotes) (j k : ℕ) (from : Source) (y : RegionId) → Pair es j k from y
     → Pair (e ∷ es) (suc j) (suc k) from y
@@ -100,9 +99,6 @@ first-pair e es did from y is fills r =
     between : StillBetween (e ∷ es) 0 (suc r.at)
     between zero x low high is = absurd (omega (arith, low))
     between (suc m) x low high is = r.still m x (omega (arith, high)) is
-
-pub same-some : {X : Type 0} (x y : X) → Some x ≡ Some y → x ≡ y
-same-some x y e = cc e
 
 pub no-both : (b : Bool) → b ≡ true → b ≡ false → ⊥
 no-both b yes_b no_b = let same : true ≡ false = sym yes_b ∙ no_b in cc same
@@ -170,7 +166,7 @@ filled-before : (e : ToldNote) (es : ToldNotes) (l : Hand) (k : ℕ) → Filled 
     → Before (e ∷ es) (suc k)
 filled-before e es l k filled f =
     let same : ◌≡◌ {A = Source × RegionId} (filled.from, filled.region) (f.from, f.region) =
-    same-some (filled.from, filled.region) (f.from, f.region) (sym filled.held ∙ f.held) in
+    same_Some (filled.from, filled.region) (f.from, f.region) (sym filled.held ∙ f.held) in
     let fills : Fills f.from f.region e.region filled.did =
     subst (λ p. Fills p.0 p.1 e.region filled.did) same filled.fills in
     record {
@@ -260,4 +256,4 @@ one-out es j k l from of y z p q =
     (ap moving q.out.is ∙ empties-move of z q.out.did q.out.empties)
     (p.still l q.out.entry q.order more q.out.there)))
     o)
-    (compare k l)
+    (three k l)

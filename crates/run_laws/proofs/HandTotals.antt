@@ -22,17 +22,18 @@ use Rattle.run_laws.specs.Hands.{did_of}
 use Rattle.run_laws.specs.HandCounts.{Tally, tally_if, tally, got_by, used_by, ended_by, shed_by, kept_by, given_by, HandsBalance}
 use Rattle.run_laws.proofs.Acts.{Acts}
 use Rattle.run_laws.proofs.LaneActs.{AnyNote}
-use Rattle.run_laws.proofs.LogEntries.{LanesAct, entry-note}
+use Rattle.run_laws.proofs.LogEntries.{LanesAct}
 use Rattle.run_laws.proofs.HandLaw.{acts-hand}
 use Rattle.run_laws.proofs.HandSums.{hands-balance}
 use Rattle.pool_law.proofs.SameLemmas.{same_region-is}
 use Rattle.run_laws.proofs.CacheLaw.{goes-through}
 use Rattle.arena_laws.proofs.TakingLaw.{takings-in_order}
 use Rattle.pool_law.proofs.HistoryLemmas.{over_lanes}
-use Rattle.run_laws.proofs.Sums.{sum_by, sum_over, over-at, over-alike, over-plus, over-many, above}
+use Rattle.pool_law.proofs.LogLemmas.{entry-note, dids-at}
+use Rattle.run_laws.proofs.Sums.{sum_by, sum_over, over-at, over-alike, over-plus, over-many, above, none-if}
 use Rattle.run_laws.proofs.Numbered.{plain, total-plain, at_object, regroup, in-history}
 use Rattle.run_laws.proofs.Placed.{all-at, IsPlaced, placed, mail-placed, is-some, total-found, one-of-true}
-use Rattle.run_laws.proofs.Totals.{dids-at, note_tally, total, born_by, takes, hits, sheds_of, gives_of, takes_in, hits_in, sheds_in, keeps_in, gives_in, births_in, ends_in, placed-weight, none-if, takes-once, pick, pick-most, over_lanes-none, over_lanes-less, over-less}
+use Rattle.run_laws.proofs.Totals.{note_tally, total, born_by, takes, hits, sheds_of, gives_of, takes_in, hits_in, sheds_in, keeps_in, gives_in, births_in, ends_in, placed-weight, takes-once, pick, pick-most, over_lanes-none, over_lanes-less, over-less}
 use Rattle.run_laws.proofs.PlaceTotals.{births_of, ends_of, ends-below, place_number, born-alike, none-ended, over-less-at}
 
 -- the laws that need the histories and the hands of a run

@@ -12,10 +12,10 @@ use Rattle.pool_law.specs.declared.run.Shape.{Shape}
 use Rattle.pool_law.specs.Logs.{Logs}
 use Rattle.pool_law.specs.Leaks.{births, is_sampled, is_live, leak_of, lane_leaks, leaks_from}
 use Rattle.pool_law.proofs.SameLemmas.{and-first, and-second}
-use Rattle.pool_law.proofs.ListLemmas.{slice_get-below}
+use Rattle.pool_law.proofs.ListLemmas.{slice_get-below, get-front, get-split}
 use Rattle.pool_law.proofs.PatternLemmas.{both_true}
 use Rattle.run_laws.specs.Reported.{ComesBefore}
-use Rattle.run_laws.proofs.ActPlaces.{get-front, get-split, get-behind}
+use Rattle.run_laws.proofs.ActPlaces.{get-behind}
 
 -- what is born in a log stands there
 pub birth-there : (log : List Note) (n : ℕ) (root : RootId) → slice_get (births log) n ≡ Some root

@@ -1,33 +1,12 @@
 -- The entries of a lane's log are made of its notes.
 use Rattle.std.proofs.Common.{◌≡◌, ℕ, zero, suc, ◌≤◌, List, [], ◌∷◌, length, refl, ap, arith, Some}
-use Rattle.std.specs.Prelude.{◌<◌, map, slice_get, unwrap_or}
-use Rattle.pool_law.specs.declared.note.Object.{Object}
+use Rattle.std.specs.Prelude.{◌<◌, map, slice_get}
 use Rattle.pool_law.specs.declared.note.Note.{Note}
-use Rattle.pool_law.specs.declared.note.Note.TheVariants.{At, Ref, Busy}
 use Rattle.pool_law.specs.Logs.{Logs, of_lane, entry_of}
-use Rattle.pool_law.proofs.ListLemmas.{slice_get-past}
+use Rattle.pool_law.proofs.LogLemmas.{entry-note}
 use Rattle.run_laws.proofs.Sums.{sum_by, sum_over}
 use Rattle.run_laws.proofs.Acts.{sum_notes, Acts, Less, less-acts}
 use Rattle.run_laws.proofs.LaneActs.{AnyNote}
-
--- an entry has the note that it is made of
-pub entry-note : (logs : Logs) (n : Note) → (entry_of logs n).note ≡ n
-entry-note logs (At (Object.Root p) k d) = refl
-entry-note logs (At _ k d) = refl
-entry-note logs (Ref root did) = refl
-entry-note logs (Busy held) = refl
-
-pub get-map : {X Y : Type 0} (f : X → Y) (xs : List X) (i : ℕ) (x : X) → slice_get xs i ≡ Some x
-    → slice_get (map f xs) i ≡ Some (f x)
-get-map f [] i x e = absurd (cc e)
-get-map f (y ∷ ys) zero x e = let same : y ≡ x = cc e in ap (λ z. Some (f z)) same
-get-map f (y ∷ ys) (suc i) x e = get-map f ys i x e
-
-pub map-get : {X Y : Type 0} (f : X → Y) (xs : List X) (i : ℕ) (y : Y) → slice_get (map f xs) i ≡ Some y
-    → (x : X) × (slice_get xs i ≡ Some x) × (f x ≡ y)
-map-get f [] i y e = absurd (cc e)
-map-get f (x ∷ xs) zero y e = (x, refl, cc e)
-map-get f (x ∷ xs) (suc i) y e = map-get f xs i y e
 
 -- the entries of a lane are made of its notes
 pub entries-at : (logs rest : Logs) (lane : ℕ) → of_lane (map (map (entry_of logs)) rest) lane
@@ -51,9 +30,6 @@ lane-there (xs ∷ logs) (suc lane) i x e = let ih : lane < length logs = lane-t
 pub sum-entries : (logs : Logs) (f : Note → ℕ) (log : List Note) → sum_notes f (map (entry_of logs) log) ≡ sum_by f log
 sum-entries logs f [] = refl
 sum-entries logs f (n ∷ log) = omega (arith, ap f (entry-note logs n), sum-entries logs f log)
-
-pub log-past : {X : Type 0} (logs : List (List X)) (lane : ℕ) → length logs ≤ lane → of_lane logs lane ≡ []
-log-past logs lane h = ap (λ o. unwrap_or o []) (slice_get-past logs lane h)
 
 -- each lane's log is acts
 abbrev pub LanesAct : Logs → Type 0

@@ -1,5 +1,5 @@
 -- A log is what the commands note, and then the closing of the caches.
-use Rattle.std.proofs.Common.{◌≡◌, ℕ, zero, suc, ◌≤◌, List, [], ◌∷◌, ◌++◌, refl, sym, ap, subst, arith, Bool, true, false, Some, ◌∙◌, eqb-true, eq-eqb}
+use Rattle.std.proofs.Common.{◌≡◌, ℕ, zero, suc, ◌≤◌, List, [], ◌∷◌, ◌++◌, refl, sym, ap, subst, arith, Bool, true, false, Some, ◌∙◌, eqb-true, eq-eqb, append-nil}
 use Rattle.std.specs.Prelude.{◌≢◌, ◌<◌, ◌==◌}
 use Rattle.size_classes.specs.Sizes.{below}
 use Rattle.pool_law.specs.declared.note.Object.{Object}
@@ -12,7 +12,6 @@ use Rattle.pool_law.specs.declared.command.Command.{Command}
 use Rattle.pool_law.specs.declared.run.Shape.{Shape}
 use Rattle.pool_law.specs.declared.run.Answered.{Answered}
 use Rattle.arena_laws.specs.Slots.{EachOf}
-use Rattle.pool_law.proofs.HistoryLemmas.{append-nil}
 use Rattle.arena_laws.proofs.GiveSteps.{IsOne}
 use Rattle.arena_laws.proofs.ReturnLaw.{IsOne-front, IsOne-last}
 use Rattle.run_laws.proofs.Numbered.{at_object, plain}

@@ -19,9 +19,8 @@ use Rattle.pool_law.specs.Counts.{view_is_of}
 use Rattle.run_laws.specs.Parcels.{parcels_of, sum_up}
 use Rattle.pool_law.proofs.SameLemmas.{and-first, and-second}
 use Rattle.pool_law.proofs.HistoryLemmas.{over_lanes, over-same}
-use Rattle.run_laws.proofs.Sums.{sum_by}
+use Rattle.run_laws.proofs.Sums.{sum_by, none-if}
 use Rattle.run_laws.proofs.Numbered.{plain, at_object}
-use Rattle.run_laws.proofs.Draining.{zero-if}
 use Rattle.run_laws.proofs.Totals.{pick, over_lanes-none}
 
 abbrev pub one : Bool → ℕ
@@ -135,7 +134,7 @@ module _ (shape : Shape) (root : RootId) (lane from to : ℕ) where
       none (Object.Mail a b) (Post p) own =
           not-first from a (to == b) (one (view_is_of root p.view))
           (λ same. differ (eqb-true lane a own ∙ sym same))
-      none (Object.Mail a b) _ own = zero-if ((from == a) && (to == b))
+      none (Object.Mail a b) _ own = none-if ((from == a) && (to == b))
       none _ d own = refl
   others-post (Ref r did ∷ ns) stand differ = omega (arith, others-post ns stand differ)
   others-post (Busy held ∷ ns) stand differ =
@@ -159,7 +158,7 @@ module _ (shape : Shape) (root : RootId) (lane from to : ℕ) where
       none (Object.Mail a b) (Fetch p) own =
           not-second (from == a) to b (one (view_is_of root p.view))
           (λ same. differ (eqb-true lane b own ∙ sym same))
-      none (Object.Mail a b) _ own = zero-if ((from == a) && (to == b))
+      none (Object.Mail a b) _ own = none-if ((from == a) && (to == b))
       none _ d own = refl
   others-fetch (Ref r did ∷ ns) stand differ = omega (arith, others-fetch ns stand differ)
   others-fetch (Busy held ∷ ns) stand differ =

@@ -17,14 +17,14 @@ use Rattle.pool_law.specs.Legal.{CountsAgree}
 use Rattle.pool_law.specs.Counts.{count_in, count_over, is_birth}
 use Rattle.run_laws.specs.CountLaw.{is_posted, is_fetched}
 use Rattle.run_laws.specs.Parcels.{parcels_of, unfetched_of, sum_up, unfetched, PostsWithin, TotalIsShared}
-use Rattle.run_laws.proofs.LogEntries.{lane-there, entry-note}
+use Rattle.run_laws.proofs.LogEntries.{lane-there}
 use Rattle.run_laws.proofs.CountSums.{total-is_counted}
 use Rattle.pool_law.proofs.HistoryLemmas.{over_lanes, over-same, over-add}
-use Rattle.run_laws.proofs.Sums.{sum_by, sum_over, sum-found, over-at, over-alike, over-single, over-many}
+use Rattle.run_laws.proofs.Sums.{sum_by, sum_over, sum-found, over-at, over-alike, over-single, over-many, none-if}
 use Rattle.run_laws.proofs.Numbered.{plain, at_object}
 use Rattle.run_laws.proofs.Totals.{over_lanes-none}
 use Rattle.pool_law.proofs.PatternLemmas.{same_object-refl}
-use Rattle.run_laws.proofs.Draining.{zero-if}
+use Rattle.pool_law.proofs.LogLemmas.{entry-note}
 use Rattle.run_laws.proofs.MailParcels.{one, posts, fetches, parcels-append, posts-sum, fetches-sum, IsMail, AtMail, at-mail, others-post, others-fetch, sum_up-over, pick-mail}
 use Rattle.run_laws.proofs.Placed.{all-at}
 
@@ -136,7 +136,7 @@ module _ (shape : Shape) (logs : Logs)
           over-same 0 n (λ a. over_lanes 0 n (λ b. if (a == from) && (b == to) then 0 else 0))
           (λ a. over_lanes 0 n (λ b. 0))
           (λ a. over-same 0 n (λ b. if (a == from) && (b == to) then 0 else 0) (λ b. 0)
-          (λ b. zero-if ((a == from) && (b == to)))) ∙ none-inside
+          (λ b. none-if ((a == from) && (b == to)))) ∙ none-inside
   at-mails f (Object.Arena a) k d w is (inl some) mail inside = absurd (mail some)
   at-mails f (Object.Arena a) k d w is (inr none) mail inside = is ∙ none ∙ sym none-inside
   at-mails f (Object.Cache a b) k d w is (inl some) mail inside = absurd (mail some)

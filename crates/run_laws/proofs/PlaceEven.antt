@@ -10,11 +10,12 @@ use Rattle.pool_law.specs.Roots.{RootPlace, Present, new_place, born, may_be_bor
 use Rattle.pool_law.specs.Histories.{after, place_after}
 use Rattle.pool_law.specs.Logs.{Logs, dids, history_of, present_in, present_before, region_for}
 use Rattle.pool_law.proofs.HistoryLemmas.{append-assoc, after-push}
+use Rattle.pool_law.proofs.ListLemmas.{front-is}
 use Rattle.run_laws.specs.CacheCounts.{one_of}
 use Rattle.run_laws.specs.HandCounts.{ended_by}
 use Rattle.run_laws.proofs.CacheLaw.{if_so-is}
 use Rattle.run_laws.proofs.Numbered.{plain, Weight, total_from}
-use Rattle.run_laws.proofs.PlaceTotals.{here_is, births_of, ends_of, take-length}
+use Rattle.run_laws.proofs.PlaceTotals.{here_is, births_of, ends_of}
 
 -- where a sum with numbers is not nothing, something counts
 pub from-found : (f : Weight) (n : ℕ) (ds : List Did) → 1 ≤ total_from f n ds
@@ -108,7 +109,7 @@ module _ (logs : Logs) (place : ℕ) (r : RegionId) where
           let now : present_before logs place (1 + length pre) ≡ s.present =
           ap (λ n. present_in (place_after place (take n (dids (history_of (Object.Root place) logs))))) number
           ∙ ap (λ xs. present_in (place_after place (take (length pre) xs))) (sym split)
-          ∙ ap (λ xs. present_in (place_after place xs)) (take-length pre (d ∷ rest))
+          ∙ ap (λ xs. present_in (place_after place xs)) (front-is pre (d ∷ rest))
           ∙ ap present_in before in
           let step : ended_by r (region_for d s.present) d + here_is r m.present
           ≡ here_is r s.present + births_of r d = step-even s m d here in

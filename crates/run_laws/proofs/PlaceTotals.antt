@@ -15,6 +15,7 @@ use Rattle.run_laws.specs.CacheCounts.{one_of}
 use Rattle.run_laws.specs.HandCounts.{one_same, ended_by}
 use Rattle.run_laws.proofs.PlaceLaw.{place_step-does, Births, Grows, Stays}
 use Rattle.pool_law.proofs.HistoryLemmas.{append-assoc, after-push}
+use Rattle.pool_law.proofs.ListLemmas.{front-is}
 use Rattle.run_laws.proofs.Sums.{sum_by, sum_over}
 use Rattle.run_laws.proofs.Numbered.{plain, Weight, total_from}
 use Rattle.std.proofs.lemmas.Bool.{cond_both}
@@ -24,10 +25,6 @@ use Rattle.run_laws.proofs.Totals.{born_by}
 abbrev pub here_is : RegionId → Option Present → ℕ
 here_is r None = 0
 here_is r (Some p) = one_of (same_region r p.region)
-
-pub take-length : {X : Type 0} (xs ys : List X) → take (length xs) (xs ++ ys) ≡ xs
-take-length [] ys = refl
-take-length (x ∷ xs) ys = ap (λ t. x ∷ t) (take-length xs ys)
 
 abbrev pub births_of : RegionId → Did → ℕ
 births_of r d = born_by r None d
@@ -105,7 +102,7 @@ module _ (logs : Logs) (place : ℕ) (r : RegionId) where
           let now : present_before logs place (1 + length pre) ≡ s.present =
           ap (λ n. present_in (place_after place (take n (dids (history_of (Object.Root place) logs))))) number
           ∙ ap (λ xs. present_in (place_after place (take (length pre) xs))) (sym split)
-          ∙ ap (λ xs. present_in (place_after place xs)) (take-length pre (d ∷ rest))
+          ∙ ap (λ xs. present_in (place_after place xs)) (front-is pre (d ∷ rest))
           ∙ ap present_in before in
           let step : ended_by r (region_for d s.present) d + here_is r m.present ≤ here_is r s.present + births_of r d =
           step-ends s m d here in

@@ -12,9 +12,12 @@ use Rattle.pool_law.specs.declared.id.Part.{Part}
 use Rattle.pool_law.specs.Readers.{ToldNotes}
 use Rattle.pool_law.specs.LaneStates.{new_lane, log_at}
 use Rattle.pool_law.specs.LaneLaw.{sweep_period, lane_run, before_stop, note_counts, replies_in}
+use Rattle.pool_law.proofs.ListLemmas.{map-get}
+use Rattle.pool_law.proofs.HistoryLemmas.{log-past}
+use Rattle.pool_law.proofs.LogLemmas.{entry-note}
 use Rattle.run_laws.specs.Reads.{get_note, groups_of, GetsPart, GetsParts, ReadsGiveWritten}
 use Rattle.run_laws.proofs.Sums.{below-or}
-use Rattle.run_laws.proofs.LogEntries.{entry-note, map-get, entries-at, log-past}
+use Rattle.run_laws.proofs.LogEntries.{entries-at}
 use Rattle.run_laws.proofs.Written.{got-written}
 use Rattle.run_laws.proofs.PartsRead.{GotPart, GotParts, reads-parts}
 use Rattle.run_laws.proofs.LaneSteps.{no-sweep, step-is, lane_run-at, piece-there, take-take, get-in_front, get-dropped, stopped-says}

@@ -12,11 +12,13 @@ use Rattle.pool_law.specs.declared.run.Shape.{Shape}
 use Rattle.pool_law.specs.Logs.{Logs, of_lane, entry_of, entries_of}
 use Rattle.pool_law.specs.Legal.{CountsAgree}
 use Rattle.pool_law.specs.Lives.{Done, IsUse, GrowsOut, Begins, Leaves}
+use Rattle.pool_law.proofs.ListLemmas.{get-map}
+use Rattle.pool_law.proofs.LogLemmas.{entry-note}
 use Rattle.run_laws.specs.OneLog.{Counted, HasEnded, StandInOneLog}
 use Rattle.run_laws.specs.Conserved.{Returned, ReturnsOnce}
 use Rattle.run_laws.specs.Hands.{did_of, Source}
 use Rattle.run_laws.proofs.PagedHistories.{HistoriesPaged}
-use Rattle.run_laws.proofs.LogEntries.{LanesAct, entry-note, get-map}
+use Rattle.run_laws.proofs.LogEntries.{LanesAct}
 use Rattle.run_laws.proofs.LogParts.{Parts}
 use Rattle.run_laws.proofs.Acts.{PutsAway}
 use Rattle.run_laws.proofs.Sums.{below-or}

@@ -1,6 +1,7 @@
 -- What the laws need of a legal run.
-use Rattle.std.proofs.Common.{⊎_elim, ◌≡◌, ℕ, suc, List, [], ◌∷◌, length, refl, sym, ap, subst, arith, ◌∙◌}
+use Rattle.std.proofs.Common.{⊎_elim, ◌≡◌, ℕ, [], length, refl, sym, ap, subst, arith, ◌∙◌}
 use Rattle.std.specs.Prelude.{◌<◌, map}
+use Rattle.std.proofs.lemmas.List.{length-map}
 use Rattle.pool_law.specs.declared.run.Run.{Run}
 use Rattle.pool_law.specs.declared.note.Object.{Object}
 use Rattle.pool_law.specs.Histories.{cache_after}
@@ -8,6 +9,7 @@ use Rattle.pool_law.specs.Logs.{of_lane, dids, history_of, entry_of, entries_of}
 use Rattle.pool_law.specs.Legal.{IsLegal, logs_of, replies_of}
 use Rattle.pool_law.specs.Lives.{RegionsLive}
 use Rattle.pool_law.specs.Apart.{LieApart, NeverOverlap}
+use Rattle.pool_law.proofs.HistoryLemmas.{log-past}
 use Rattle.run_laws.specs.Conserved.{CachesEndEmpty}
 use Rattle.run_laws.proofs.Sums.{below-or}
 use Rattle.run_laws.proofs.PagedHistories.{paged}
@@ -15,7 +17,7 @@ use Rattle.run_laws.proofs.Placed.{is-some}
 use Rattle.run_laws.proofs.Acts.{sum_notes, Acts, no-acts}
 use Rattle.run_laws.proofs.LaneActs.{AnyNote, any-acts}
 use Rattle.run_laws.proofs.LogParts.{Parts, log-parts}
-use Rattle.run_laws.proofs.LogEntries.{LanesAct, entries-at, log-past}
+use Rattle.run_laws.proofs.LogEntries.{LanesAct, entries-at}
 use Rattle.run_laws.proofs.LifeChain as chain
 use Rattle.run_laws.proofs.Births.{used-born}
 use Rattle.run_laws.proofs.OverlapLaw.{never-overlap}
@@ -27,10 +29,6 @@ use Rattle.run_laws.proofs.EndLaw.{cache-empty, birth-counts}
 use Rattle.run_laws.specs.OneLog.{StandInOneLog}
 use Rattle.run_laws.proofs.OneLogLaw.{stand-in_one_log}
 
-pub map-length : {X Y : Type 0} (f : X → Y) (xs : List X) → length (map f xs) ≡ length xs
-map-length f [] = refl
-map-length f (x ∷ xs) = ap suc (map-length f xs)
-
 -- every lane's log is acts
 pub acts-of : (run : Run) → IsLegal run → LanesAct (logs_of run)
 acts-of run legal lane =
@@ -41,11 +39,11 @@ acts-of run legal lane =
     (of_lane (entries_of (logs_of run)) lane) (legal.answers lane low)))
     (λ high. no-acts (map (entry_of (logs_of run)) (of_lane (logs_of run) lane)) []
     (ap (map (entry_of (logs_of run)))
-    (log-past (logs_of run) lane (omega (arith, map-length (λ l. l.notes) run.logs, legal.logs, high)))))
+    (log-past (logs_of run) lane (omega (arith, length-map run.logs (λ l. l.notes), legal.logs, high)))))
     (below-or lane run.shape.lanes)
 
 pub logs-length : (run : Run) → IsLegal run → length (logs_of run) ≡ run.shape.lanes
-logs-length run legal = omega (arith, map-length (λ l. l.notes) run.logs, legal.logs)
+logs-length run legal = omega (arith, length-map run.logs (λ l. l.notes), legal.logs)
 
 -- each lane's log is what its commands note, and the closing of its caches
 pub parts-of : (run : Run) → IsLegal run → (lane : ℕ) → lane < length (logs_of run)

@@ -29,13 +29,13 @@ use Rattle.run_laws.proofs.Doings.{Does, does-so}
 use Rattle.run_laws.proofs.EventLaw.{begins-in, leaves-in}
 use Rattle.run_laws.proofs.HandMoves.{growth-finds}
 use Rattle.run_laws.proofs.PlaceMoves.{left-own}
-use Rattle.run_laws.proofs.HandPairs.{compare}
 use Rattle.run_laws.proofs.Owners.{owner-there, kept-gone}
 use Rattle.run_laws.proofs.EndLaw.{dead-ended}
 use Rattle.run_laws.proofs.Births.{use_event, end_event, use-does, end-does, used-born}
 use Rattle.run_laws.proofs.LifeChain.{is-done_at}
 use Rattle.run_laws.proofs.UseEndings.{left-ends, ended-left}
 use Rattle.run_laws.proofs.ReturnsLaw.{use-number}
+use Rattle.arena_laws.proofs.SlotLemmas.{three}
 
 abbrev pub uses_number : Note → ℕ
 uses_number (At o k (Birth root x)) = x.uses
@@ -136,7 +136,7 @@ module _ (shape : Shape) (logs : Logs) (holds : HistoriesPaged shape logs) (acts
             none-later shape logs holds acts r (r.uses + 1) d.0 (omega arith) next,
           )))
           o)
-          (compare n r.uses)
+          (three n r.uses)
 
   pub few-uses : (r : RegionId) (n : ℕ) → sum_over uses_number logs < n → births_in logs (with_uses r n) ≡ 0
   few-uses r n high = go (births_in logs (with_uses r n)) refl

@@ -13,10 +13,11 @@ use Rattle.pool_law.specs.declared.note.Note.TheVariants.{At, Ref, Busy}
 use Rattle.pool_law.specs.Logs.{Logs, ToldNote, of_lane, entry_of}
 use Rattle.pool_law.specs.Readers.{ToldNotes}
 use Rattle.pool_law.specs.Patterns.{one_more}
+use Rattle.pool_law.proofs.ListLemmas.{get-map, map-get}
+use Rattle.pool_law.proofs.LogLemmas.{entry-note}
 use Rattle.run_laws.proofs.Acts.{Gets, PutsAway, IsQuiet, AreQuiet, IsAt, Birthing, Growing, Sparing, Ending, Act, before, act_notes, Acts}
 use Rattle.run_laws.proofs.ActPlaces.{Within, entry-within}
 use Rattle.run_laws.proofs.LaneActs.{AnyNote}
-use Rattle.run_laws.proofs.LogEntries.{entry-note, get-map, map-get}
 
 pub record BirthHere (logs : Logs) (lane : ℕ) (root : RootId) : Type 0 where
   pub region : RegionId

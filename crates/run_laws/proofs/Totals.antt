@@ -19,11 +19,6 @@ use Rattle.pool_law.proofs.HistoryLemmas.{over_lanes, lesser-or_same}
 use Rattle.run_laws.proofs.Sums.{sum_by, sum_over}
 use Rattle.std.proofs.lemmas.Bool.{cond_both}
 
-pub dids-at : (h : History) (j lane : ℕ) (d : Did) → slice_get h j ≡ Some (lane, d) → slice_get (dids h) j ≡ Some d
-dids-at [] j lane d e = absurd (cc e)
-dids-at (x ∷ h) zero lane d e = let same : ◌≡◌ {A = ℕ × Did} x (lane, d) = cc e in ap (λ p. Some p.1) same
-dids-at (x ∷ h) (suc j) lane d e = dids-at h j lane d e
-
 pub dids-there : (h : History) (j : ℕ) (d : Did) → slice_get (dids h) j ≡ Some d
     → (lane : ℕ) × (slice_get h j ≡ Some (lane, d))
 dids-there [] j d e = absurd (cc e)
@@ -87,10 +82,6 @@ placed-weight r x o other f = go (same_region r x) f
     go : (b : Bool) → (b ≡ true → other ≡ o) → one_of b ≡ (if same_object o other then one_of b else 0)
     go true f = let e : same_object o other ≡ true = ap (same_object o) (f refl) ∙ same_object-refl o in rw e refl
     go false f = cond_both (same_object o other) 0 0 (λ z. 0 ≡ z) (λ _. refl) (λ _. refl)
-
-pub none-if : (b : Bool) → ◌≡◌ {A = ℕ} (if b then 0 else 0) 0
-none-if true = refl
-none-if false = refl
 
 -- the takings of an arena's history have each region once
 pub takes-once : (number n m : ℕ) (r : RegionId) (ds : List Did) → TakenInOrder number n ds m

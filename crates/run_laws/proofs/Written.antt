@@ -1,5 +1,5 @@
 -- The bytes at a root place are those that its notes wrote.
-use Rattle.std.proofs.Common.{⊎_elim, ◌≡◌, ℕ, zero, suc, ◌+◌, ◌-◌, ◌≤◌, List, [], ◌∷◌, ◌++◌, length, take, drop, replicate, get_or, refl, sym, ap, subst, arith, Bool, true, false, Some, None, ◌∙◌, eqb-true, ltb-true, leb-true, le-leb, lt-ltb}
+use Rattle.std.proofs.Common.{⊎_elim, ◌≡◌, ℕ, zero, suc, ◌+◌, ◌-◌, ◌≤◌, List, [], ◌∷◌, ◌++◌, length, take, drop, replicate, get_or, refl, sym, ap, subst, arith, Bool, true, false, Some, None, ◌∙◌, ltb-true, leb-true, le-leb, lt-ltb}
 use Rattle.std.specs.Prelude.{◌<◌, ◌==◌, ◌&&◌, ◌||◌, nat_lt, nat_le, if◌then◌else◌, Option}
 use Rattle.std.proofs.lemmas.List.{get_or_append_left, get_or-append_right, get_or-drop, get_or-take, length-take-le}
 use Rattle.std.proofs.lemmas.Bool.{cond_both}
@@ -14,14 +14,14 @@ use Rattle.pool_law.specs.Logs.{Logs, dids, history_of}
 use Rattle.pool_law.specs.Legal.{HistoriesHold}
 use Rattle.pool_law.specs.Lives.{Done}
 use Rattle.run_laws.specs.Reads.{covers, byte_after, last_written, earlier_at}
-use Rattle.pool_law.proofs.SameLemmas.{and-first, and-second}
+use Rattle.pool_law.proofs.SameLemmas.{and-first, and-second, same_bytes-is}
 use Rattle.pool_law.proofs.PatternLemmas.{both_true}
+use Rattle.pool_law.proofs.LogLemmas.{dids-at}
 use Rattle.run_laws.proofs.Sums.{below-or}
 use Rattle.run_laws.proofs.CacheLaw.{if_so-is}
 use Rattle.run_laws.proofs.PlaceLaw.{if_so-test, after-first}
 use Rattle.run_laws.proofs.Numbered.{in-history}
 use Rattle.run_laws.proofs.Placed.{step-at, is-some}
-use Rattle.run_laws.proofs.Totals.{dids-at}
 
 -- a byte of what is laid over others
 pub laid-byte : (old bytes : List ℕ) (offset i : ℕ) → offset + length bytes ≤ length old →
@@ -145,15 +145,6 @@ after-written place i old s t [] e holds = let same : s ≡ t = cc e in subst (H
 after-written place i old s t (d ∷ ds) e holds =
     let f = after-first place s t d ds e in
     after-written place i (byte_after i old d) f.0 t ds f.2 (step-written place i old s f.0 d f.1 holds)
-
-pub same_bytes-is : (xs ys : List ℕ) → same_bytes xs ys ≡ true → xs ≡ ys
-same_bytes-is [] [] e = refl
-same_bytes-is [] (y ∷ ys) e = absurd (cc e)
-same_bytes-is (x ∷ xs) [] e = absurd (cc e)
-same_bytes-is (x ∷ xs) (y ∷ ys) e =
-    let head : x ≡ y = eqb-true x y (and-first (x == y) (same_bytes xs ys) e) in let tail : xs
-    ≡ ys = same_bytes-is xs ys (and-second (x == y) (same_bytes xs ys) e) in
-    λ i. head i ∷ tail i
 
 -- what a note got is there
 pub got-there : (place : ℕ) (s t : RootPlace) (offset : ℕ) (bytes : List ℕ)

@@ -1,5 +1,5 @@
 -- Fronts of a list of steps: what was made in them.
-use Rattle.std.proofs.Common.{◌≡◌, ℕ, zero, suc, ◌+◌, ◌≤◌, Bool, true, false, List, [], ◌∷◌, ◌++◌, length, take, drop, refl, ap, arith, Some, ◌∙◌}
+use Rattle.std.proofs.Common.{◌≡◌, ℕ, zero, suc, ◌+◌, ◌≤◌, Bool, true, false, List, [], ◌∷◌, ◌++◌, take, drop, refl, ap, arith, Some}
 use Rattle.std.specs.Prelude.{◌<◌, slice_get}
 use Rattle.std.proofs.lemmas.Bool.{cond_both}
 use Rattle.pool_law.specs.declared.note.Note.{Note}
@@ -17,38 +17,6 @@ pub split-at : {X : Type 0} (xs : List X) (p : ℕ) (x : X) → slice_get xs p �
 split-at [] p x e = absurd (cc e)
 split-at (y ∷ ys) zero x e = let same : y ≡ x = cc e in ap (λ z. z ∷ ys) same
 split-at (y ∷ ys) (suc p) x e = ap (λ zs. y ∷ zs) (split-at ys p x e)
-
--- the item behind a front
-pub get-behind : {X : Type 0} (before : List X) (x : X) (after : List X)
-    → slice_get (before ++ x ∷ after) (length before) ≡ Some x
-get-behind [] x after = refl
-get-behind (y ∷ before) x after = get-behind before x after
-
--- an item of a front is that of the list there
-pub get-front : {X : Type 0} (xs ys : List X) (k : ℕ) (x : X) → slice_get xs k ≡ Some x
-    → slice_get (xs ++ ys) k ≡ Some x
-get-front [] ys k x e = absurd (cc e)
-get-front (z ∷ xs) ys zero x e = e
-get-front (z ∷ xs) ys (suc k) x e = get-front xs ys k x e
-
--- an item further behind a front
-pub get-further : {X : Type 0} (before after : List X) (j : ℕ)
-    → slice_get (before ++ after) (length before + j) ≡ slice_get after j
-get-further [] after j = ap (slice_get after) (omega arith)
-get-further (y ∷ before) after j =
-    let next : suc (length before) + j ≡ suc (length before + j) = omega arith in
-    ap (slice_get (y ∷ (before ++ after))) next ∙ get-further before after j
-
--- a front is as many items of the list
-pub front-is : {X : Type 0} (before after : List X) → take (length before) (before ++ after) ≡ before
-front-is [] after = refl
-front-is (x ∷ before) after = ap (λ zs. x ∷ zs) (front-is before after)
-
--- each place of a list has an item
-pub item-at : {X : Type 0} (xs : List X) (k : ℕ) → k < length xs → (x : X) × (slice_get xs k ≡ Some x)
-item-at [] k low = absurd (omega arith)
-item-at (x ∷ xs) zero low = (x, refl)
-item-at (x ∷ xs) (suc k) low = item-at xs k (omega arith)
 
 -- one step more
 pub made-next : (test : Note → Bool) (xs : List Step) (k : ℕ) (x : Step) → slice_get xs k ≡ Some x

@@ -21,9 +21,10 @@ use Rattle.pool_law.specs.Legal.{HistoriesHold, one_if}
 use Rattle.pool_law.specs.Lives.{StandsAt}
 use Rattle.pool_law.proofs.HistoryLemmas.{append-assoc}
 use Rattle.pool_law.proofs.PatternLemmas.{both_true, same_object-refl}
+use Rattle.pool_law.proofs.ListLemmas.{get-behind, get-front, get-further}
 use Rattle.run_order.specs.Order.{Step, is_alike, is_post, same_way, made, InOneOrder}
 use Rattle.run_order.specs.HandOver.{IsHandedOver}
-use Rattle.run_order.proofs.Fronts.{get-behind, get-front, get-further, made-next, made-more}
+use Rattle.run_order.proofs.Fronts.{made-next, made-more}
 use Rattle.run_order.proofs.MailLists.{posted-append, fetched-append}
 use Rattle.run_order.proofs.Positions.{made-posts, place, there, later-in_log, fits-there, number-there, post-first}
 

@@ -1,12 +1,12 @@
 -- Logs whose notes fit in no order: a search over all orders, which computes.
-use Rattle.std.proofs.Common.{◌≡◌, ℕ, zero, suc, ◌+◌, Bool, true, false, List, [], ◌∷◌, ◌++◌, drop, refl, sym, ap, subst, arith, ◌∙◌, eqb-true, eq-eqb}
+use Rattle.std.proofs.Common.{◌≡◌, ℕ, zero, suc, ◌+◌, Bool, true, false, List, [], ◌∷◌, ◌++◌, drop, refl, sym, ap, subst, arith, ◌∙◌, eqb-true, eq-eqb, append-nil}
 use Rattle.std.specs.Prelude.{◌==◌, if◌then◌else◌}
 use Rattle.pool_law.specs.declared.note.Note.{Note}
 use Rattle.pool_law.specs.Logs.{Logs, of_lane}
 use Rattle.std.specs.List.{list_all, All}
 use Rattle.std.proofs.lemmas.List.Elements.{All-cons, All-nil}
 use Rattle.pool_law.proofs.SameLemmas.{and-first, and-second}
-use Rattle.pool_law.proofs.HistoryLemmas.{append-assoc, append-nil}
+use Rattle.pool_law.proofs.HistoryLemmas.{append-assoc}
 use Rattle.run_order.specs.Order.{Step, notes_by, Fits, InOneOrder}
 use Rattle.run_order.proofs.Fronts.{by-test}
 use Rattle.run_order.specs.Turns.{without}

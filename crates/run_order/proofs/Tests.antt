@@ -1,5 +1,5 @@
 -- Whether a note fits what was done before it, and each of a list of steps does, as tests that compute.
-use Rattle.std.proofs.Common.{◌≡◌, ℕ, ◌+◌, Bool, true, List, [], ◌∷◌, ◌++◌, refl, sym, subst, arith, eqb-true, eq-eqb, ltb-true, lt-ltb, leb-true, le-leb}
+use Rattle.std.proofs.Common.{◌≡◌, ℕ, ◌+◌, Bool, true, List, [], ◌∷◌, ◌++◌, refl, sym, subst, arith, eqb-true, eq-eqb, ltb-true, lt-ltb, leb-true, le-leb, append-nil}
 use Rattle.std.specs.Prelude.{◌<◌, ◌-◌, ◌==◌, ◌&&◌, nat_lt, nat_le}
 use Rattle.pool_law.specs.declared.id.RootId.{RootId}
 use Rattle.pool_law.specs.declared.note.Object.{Object}
@@ -11,7 +11,7 @@ use Rattle.pool_law.specs.Kinds.{Passing, Stays, Goes, Comes, passing}
 use Rattle.pool_law.specs.Counts.{is_born, is_retain, is_release, ends_root}
 use Rattle.pool_law.proofs.SameLemmas.{and-first, and-second}
 use Rattle.pool_law.proofs.PatternLemmas.{both_true}
-use Rattle.pool_law.proofs.HistoryLemmas.{append-assoc, append-nil}
+use Rattle.pool_law.proofs.HistoryLemmas.{append-assoc}
 use Rattle.run_order.specs.Order.{Step, made, is_at, is_alike, is_post, is_born_at, is_vacated_at, is_vacated, FitsCount, FindsIts, Fits}
 
 -- the counts of a root that these steps gain, and those that they lose

@@ -1,11 +1,11 @@
 -- What is left of the logs behind the turns of their lanes, and what the turns made of them.
-use Rattle.std.proofs.Common.{◌≡◌, ◌≢◌, ℕ, zero, suc, Bool, true, false, List, [], ◌∷◌, ◌++◌, take, drop, refl, sym, ap, subst, ◌∙◌, eqb-true, eq-eqb}
+use Rattle.std.proofs.Common.{◌≡◌, ◌≢◌, ℕ, zero, suc, Bool, true, false, List, [], ◌∷◌, ◌++◌, take, drop, refl, sym, ap, subst, ◌∙◌, eqb-true, eq-eqb, append-nil}
 use Rattle.std.specs.Prelude.{◌==◌, ◌&&◌, if◌then◌else◌}
 use Rattle.std.proofs.lemmas.List.{take-append-drop}
 use Rattle.pool_law.specs.declared.note.Note.{Note}
 use Rattle.pool_law.specs.Logs.{Logs, of_lane}
 use Rattle.pool_law.proofs.SameLemmas.{and-first, and-second}
-use Rattle.pool_law.proofs.HistoryLemmas.{append-assoc, append-nil}
+use Rattle.pool_law.proofs.HistoryLemmas.{append-assoc}
 use Rattle.run_order.specs.Order.{Step, notes_by}
 use Rattle.run_order.specs.Turns.{Turn, steps_by, without, steps_of, InTurns}
 use Rattle.run_order.proofs.Fronts.{by-test}
