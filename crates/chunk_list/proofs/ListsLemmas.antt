@@ -4,7 +4,8 @@ use Rattle.std.specs.Prelude.{◌==◌, ◌||◌, not, if◌then◌else◌, Opti
 use Rattle.pool_law.specs.declared.report.ListName.{ListName}
 use Rattle.pool_law.specs.declared.report.ListName.TheVariants.{QInit, Q000, Q025, Q050, Q075, Q100}
 use Rattle.pool_law.specs.ChunkLists.{Lists, list_named, entered, without, left, has, list_of, same_list, moved_to}
-use Rattle.chunk_list.proofs.MemberLemmas.{has-without, without-absent}
+use Rattle.pool_law.proofs.NumberLemmas.{has-without}
+use Rattle.chunk_list.proofs.MemberLemmas.{without-absent}
 
 -- the chunk is in none of the lists
 pub record IsInNone (l : Lists) (c : ℕ) : Type 0 where

@@ -1,31 +1,20 @@
 -- The numbers of one list: they differ, so there is room for one that is not among them.
-use Rattle.std.proofs.Common.{◌≡◌, ℕ, ◌<◌, ◌≤◌, ⊎_elim, List, [], ◌∷◌, length, refl, sym, ap, arith, Bool, true, false, nat_eq, ◌∙◌, eqb-true}
+use Rattle.std.proofs.Common.{◌≡◌, ℕ, ◌<◌, ◌≤◌, ⊎_elim, List, [], ◌∷◌, length, refl, sym, ap, arith, true, false, nat_eq, ◌∙◌, eqb-true}
 use Rattle.std.specs.Prelude.{◌==◌, ◌||◌, not, if◌then◌else◌}
 use Rattle.std.specs.List.{IsDistinct, AllByRecursion, list_any}
-use Rattle.std.proofs.lemmas.Bool.{cases_Bool, cond_both}
+use Rattle.std.proofs.lemmas.Bool.{cases_Bool, cond_both, or_parts}
 use Rattle.std.proofs.lemmas.Cmp.{nat_eq_equiv}
 use Rattle.std.proofs.lemmas.Map.Keys.{IsDistinct-cons}
 use Rattle.pool_law.specs.ChunkLists.{has, without}
-use Rattle.pool_law.proofs.NumberLemmas.{listed-turned, different-within}
+use Rattle.pool_law.proofs.NumberLemmas.{listed-turned, different-within, none_distinct}
 use Rattle.chunk_list.specs.Kept.{AreDifferent, AreBelow}
-
-or-first : (a b : Bool) → (a || b) ≡ false → a ≡ false
-or-first false b e = refl
-or-first true b e = absurd (cc e)
-
-or-second : (a b : Bool) → (a || b) ≡ false → b ≡ false
-or-second false b e = e
-or-second true b e = absurd (cc e)
 
 -- a number that is not in the list differs from each that is
 all-apart : (c : ℕ) (xs : List ℕ) → has c xs ≡ false → AllByRecursion (λ x. nat_eq c x ≡ false) xs
 all-apart c [] none = tt
 all-apart c (x ∷ xs) none =
-    (nat_eq_equiv.symm c x ∙ or-first (x == c) (has c xs) none, all-apart c xs (or-second (x == c) (has c xs) none))
-
-none_distinct : IsDistinct nat_eq []
-unfolding IsDistinct
-none_distinct = tt
+    let parts = or_parts (x == c) (has c xs) none in
+    (nat_eq_equiv.symm c x ∙ parts.0, all-apart c xs parts.1)
 
 as-distinct : (xs : List ℕ) → AreDifferent xs → IsDistinct nat_eq xs
 as-distinct [] d = none_distinct
@@ -69,29 +58,17 @@ has_room places c xs different below place new =
 pub has-without_other : (c d : ℕ) (xs : List ℕ) → has d xs ≡ false → has d (without c xs) ≡ false
 has-without_other c d [] none = refl
 has-without_other c d (x ∷ xs) none =
-    let rest : has d (without c xs) ≡ false = has-without_other c d xs (or-second (x == d) (has d xs) none) in
+    let rest : has d (without c xs) ≡ false = has-without_other c d xs (or_parts (x == d) (has d xs) none).1 in
     cond_both (not (x == c)) (x ∷ without c xs) (without c xs) (λ z. has d z ≡ false)
-    (λ _. ap (λ b. b || has d (without c xs)) (or-first (x == d) (has d xs) none) ∙ rest)
+    (λ _. ap (λ b. b || has d (without c xs)) (or_parts (x == d) (has d xs) none).0 ∙ rest)
     (λ _. rest)
-
--- a number that has left the list is not in it
-pub has-without : (c : ℕ) (xs : List ℕ) → has c (without c xs) ≡ false
-has-without c [] = refl
-has-without c (x ∷ xs) = go (x == c) refl (has-without c xs)
-  where
-    go : (b : Bool) → (x == c) ≡ b → has c (without c xs) ≡ false → has c (without c (x ∷ xs)) ≡ false
-    go true is rest = ap (λ b. has c (if not b then x ∷ without c xs else without c xs)) is ∙ rest
-    go false is rest =
-        ap (λ b. has c (if not b then x ∷ without c xs else without c xs)) is
-        ∙ ap (λ b. b || has c (without c xs)) is
-        ∙ rest
 
 -- a number that is not in the list leaves it as it is
 pub without-absent : (c : ℕ) (xs : List ℕ) → has c xs ≡ false → without c xs ≡ xs
 without-absent c [] none = refl
 without-absent c (x ∷ xs) none =
-    ap (λ b. if not b then x ∷ without c xs else without c xs) (or-first (x == c) (has c xs) none)
-    ∙ ap (λ ys. x ∷ ys) (without-absent c xs (or-second (x == c) (has c xs) none))
+    ap (λ b. if not b then x ∷ without c xs else without c xs) (or_parts (x == c) (has c xs) none).0
+    ∙ ap (λ ys. x ∷ ys) (without-absent c xs (or_parts (x == c) (has c xs) none).1)
 
 pub different-without : (c : ℕ) (xs : List ℕ) → AreDifferent xs → AreDifferent (without c xs)
 different-without c [] d = tt

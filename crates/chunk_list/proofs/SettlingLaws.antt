@@ -2,14 +2,12 @@
 use Rattle.std.proofs.Common.{◌≡◌, ℕ, ◌<◌, ◌≤◌, List, [], ◌∷◌, refl, sym, ap, arith, Bool, true, false, Some, None, ◌∙◌}
 use Rattle.std.specs.Prelude.{nat_le, nat_lt, if◌then◌else◌, Option}
 use Rattle.std.proofs.lemmas.Bool.Decides.{nat_tests}
+use Rattle.std.proofs.lemmas.Bool.{lt-leb}
 use Rattle.pool_law.specs.declared.report.ListName.{ListName}
 use Rattle.pool_law.specs.declared.report.ListName.TheVariants.{QInit, Q000, Q025, Q050, Q075, Q100}
 use Rattle.pool_law.specs.ChunkLists.{Lists, entered, left, list_of, greatest, least, lists_above, lists_below, risen, sunk, moved_to, settled_up, down_to, settled_down}
 use Rattle.chunk_list.specs.Settling.{rises, goes_to, settled, added}
 use Rattle.chunk_list.proofs.ListsLemmas.{IsInNone, list_of-entered, left-entered_first}
-
-not-le : (n m : ℕ) → m < n → nat_le n m ≡ false
-not-le n m lt = grind (arith, nat_tests)
 
 not-lt : (n m : ℕ) → n ≤ m → nat_lt m n ≡ false
 not-lt n m le = grind (arith, nat_tests)
@@ -22,7 +20,7 @@ pub risen_stays : (percent : ℕ) (here : ListName) (above : List ListName) → 
     risen percent here above ≡ here
 risen_stays percent here [] lt = refl
 risen_stays percent here (next ∷ rest) lt =
-    ap (λ b. if b then risen percent next rest else here) (not-le (greatest here) percent lt)
+    ap (λ b. if b then risen percent next rest else here) (lt-leb (greatest here) percent lt)
 
 -- from the least usage of its list on it doesn't sink
 pub sunk_stays : (percent : ℕ) (here : ListName) (below : List ListName) → least here ≤ percent →
@@ -94,7 +92,7 @@ pub settled-down : (l : Lists) (c percent : ℕ) (here : ListName) → list_of l
     settled l c percent ≡ settled_down l c (list_of l c) (down_to percent (list_of l c))
 settled-down l c percent here is lt =
     ap (λ o. if rises percent o then settled_up l c percent o else settled_down l c o (down_to percent o)) is
-    ∙ ap (λ b. if b then up else down) (not-le (greatest here) percent lt)
+    ∙ ap (λ b. if b then up else down) (lt-leb (greatest here) percent lt)
     ∙ sym (ap (λ o. settled_down l c o (down_to percent o)) is)
   where
     up : Lists

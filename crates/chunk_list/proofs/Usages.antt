@@ -1,16 +1,13 @@
 -- Usages: wherever a chunk settles, its usage lies between the least and the greatest of the list.
 use Rattle.std.proofs.Common.{◌≡◌, ℕ, ◌<◌, ◌≤◌, List, [], ◌∷◌, subst, arith, true, false, Some, None}
 use Rattle.std.specs.Prelude.{nat_le, nat_lt}
-use Rattle.std.proofs.lemmas.Bool.{cond_both}
+use Rattle.std.proofs.lemmas.Bool.{cond_both, leb-true}
 use Rattle.std.proofs.lemmas.Bool.Decides.{nat_tests}
 use Rattle.pool_law.specs.declared.report.ListName.{ListName}
 use Rattle.pool_law.specs.declared.report.ListName.TheVariants.{QInit, Q000, Q025, Q050, Q075, Q100}
 use Rattle.pool_law.specs.ChunkLists.{greatest, least, lists_above, lists_below, risen, sunk, down_to}
 use Rattle.chunk_list.specs.Settling.{goes_to, IsWithin}
 use Rattle.chunk_list.proofs.SettlingLaws.{below-le}
-
-is-above : (n m : ℕ) → nat_le n m ≡ true → n ≤ m
-is-above n m e = grind (arith, nat_tests, e)
 
 is-below : (n m : ℕ) → nat_lt m n ≡ true → m < n
 is-below n m e = grind (arith, nat_tests, e)
@@ -24,7 +21,7 @@ rise : (percent : ℕ) (here next : ListName) (above : List ListName) → least 
     IsWithin percent (risen percent here (next ∷ above))
 rise percent here next above le further =
     cond_both (nat_le (greatest here) percent) (risen percent next above) here (IsWithin percent)
-    (λ up. further (is-above (greatest here) percent up))
+    (λ up. further (leb-true (greatest here) percent up))
     (λ stays. (le, below-le (greatest here) percent stays))
 
 module _ (percent : ℕ) (most : percent ≤ 100) where
@@ -118,5 +115,5 @@ goes_within percent here there most =
     (λ z. z ≡ Some there → IsWithin percent there)
     (λ up e.
     let same : risen percent here (lists_above here) ≡ there = cc e in
-    subst (IsWithin percent) same (rises_within percent here most (is-above (greatest here) percent up)))
+    subst (IsWithin percent) same (rises_within percent here most (leb-true (greatest here) percent up)))
     (λ stays e. sunk_within percent there here (below-le (greatest here) percent stays) e)

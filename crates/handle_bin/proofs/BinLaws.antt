@@ -12,7 +12,7 @@ use Rattle.std.proofs.lemmas.Nat.{div-mul-add}
 use Rattle.std.proofs.Math.Nat.{div-mul-le_self, lt-div-mul-add}
 use Rattle.size_classes.specs.Sizes.{below}
 use Rattle.pool_law.specs.Caches.{has_place}
-use Rattle.pool_law.proofs.NumberLemmas.{numbers, numbers-more, not-listed, listed-turned, different-within}
+use Rattle.pool_law.proofs.NumberLemmas.{numbers, numbers-more, not-listed, listed-turned, different-within, none_distinct}
 use Rattle.pool_law.proofs.SameLemmas.{and-first, and-second}
 use Rattle.handle_bin.specs.Bins.{HandleValue, places_in, new_handle, handles_below, is_of}
 use Rattle.handle_bin.specs.Kept.{AreHandlesOf}
@@ -118,10 +118,6 @@ places_of_first lane handles (suc n) =
     ∙ places-more (handles_below lane handles n) (new_handle lane (lane * handles + n))
     ∙ ap (λ xs. xs ++ (lane * handles + n) ∷ []) (places_of_first lane handles n)
     ∙ sym (numbers-more (lane * handles) n)
-
-none_distinct : IsDistinct nat_eq []
-unfolding IsDistinct
-none_distinct = tt
 
 first_is_ready : (lane handles n : ℕ) → n ≤ handles → AreHandlesOf lane handles (handles_below lane handles n)
 first_is_ready lane handles zero le = record { own = refl; distinct = none_distinct }

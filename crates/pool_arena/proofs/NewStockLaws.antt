@@ -8,6 +8,7 @@ use Rattle.size_classes.specs.Sizes.{Geometry, of_pages, IsGeometry, below, clas
 use Rattle.pool_law.specs.ChunkLists.{Lists, list_of, no_chunks}
 use Rattle.pool_law.specs.Arenas.{new_arena}
 use Rattle.pool_law.proofs.ListLemmas.{slice_get-below}
+use Rattle.pool_law.proofs.NumberLemmas.{length-below}
 use Rattle.arena_laws.proofs.ListSteps.{nowhere}
 use Rattle.chunk_list.specs.Listing.{Listing, new_listing}
 use Rattle.pool_arena.specs.Places.{PlaceState}
@@ -36,10 +37,6 @@ all-same : {X Y : Type 0} (f : X → Y) (y : Y) (xs : List X) → All (λ x. f x
 all-same f y [] all = refl
 all-same f y (x ∷ xs) all =
     (λ i. all 0 x (omega arith) i ∷ all-same f y xs (λ k d less. all (suc k) d (omega (arith, less))) i)
-
-length-below : (n : ℕ) → length (below n) ≡ n
-length-below zero = refl
-length-below (suc n) = omega (arith, length-append (below n) (n ∷ []), length-below n)
 
 below-at : (n k d : ℕ) → k < n → get_or (below n) k d ≡ k
 below-at zero k d less = absurd (omega arith)

@@ -1,7 +1,7 @@
 -- What a caller knows of an arena by the takings that are out.
 use Rattle.std.proofs.Common.{◌≡◌, ◌≢◌, ℕ, ◌+◌, ◌<◌, List, [], ◌∷◌, ◌++◌, length, refl, sym, ap, ◌∙◌, subst, Bool, true, false, Some, None, arith, ne_eqb, inl, inr}
 use Rattle.std.specs.Prelude.{◌==◌, ◌&&◌, ◌||◌, not, slice_get, if◌then◌else◌}
-use Rattle.std.proofs.lemmas.Bool.{cond_both}
+use Rattle.std.proofs.lemmas.Bool.{cond_both, or_right}
 use Rattle.std.proofs.lemmas.List.{length-replicate}
 use Rattle.std.specs.List.{list_any}
 use Rattle.ground.specs.Ground.{Segment}
@@ -79,11 +79,8 @@ one-out r [] one = absurd one
 one-out r (s ∷ out) (inl e) =
     ap (λ (b : Bool). b || list_any (λ other. same_taking r other) out)
     (subst (λ (x : RegionId). same_taking r x ≡ true) e (same_taking-refl r))
-one-out r (s ∷ out) (inr one) = ap (λ (b : Bool). same_taking r s || b) (one-out r out one) ∙ or-true (same_taking r s)
-  where
-    or-true : (b : Bool) → (b || true) ≡ true
-    or-true true = refl
-    or-true false = refl
+one-out r (s ∷ out) (inr one) =
+    ap (λ (b : Bool). same_taking r s || b) (one-out r out one) ∙ or_right (same_taking r s) true refl
 
 module _ (a : ArenaState) (r : RegionId) (out : List RegionId) (has : HasOut a out) (one : IsOne r out) where
   -- it is a run or an element in use

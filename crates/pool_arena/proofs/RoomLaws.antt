@@ -2,6 +2,7 @@
 use Rattle.std.proofs.Common.{◌≡◌, ℕ, ◌+◌, ◌*◌, ◌<◌, List, [], ◌∷◌, length, refl, sym, ap, ◌∙◌, Bool, true, false, arith, eqb-true, eq-eqb, inl, inr}
 use Rattle.std.specs.Prelude.{◌⊎◌, map, ◌==◌, ◌&&◌, ◌||◌}
 use Rattle.std.proofs.lemmas.List.{length-map}
+use Rattle.std.proofs.lemmas.Bool.{or_parts, or_right, and_from}
 use Rattle.arena_laws.proofs.SlotLemmas.{three}
 use Rattle.arena_laws.proofs.FrontSteps.{spot-first}
 use Rattle.pool_law.specs.ChunkLists.{has}
@@ -39,22 +40,6 @@ same-code chunks pages s t less more same =
     by (inr (inl e)) before after = e
     by (inr (inr gt)) before after = absurd (after gt)
 
-or-first : (a b : Bool) → (a || b) ≡ false → a ≡ false
-or-first false b e = refl
-or-first true b e = absurd (cc e)
-
-or-second : (a b : Bool) → (a || b) ≡ false → b ≡ false
-or-second false b e = e
-or-second true b e = absurd (cc e)
-
-or-true : (a : Bool) → (a || true) ≡ true
-or-true true = refl
-or-true false = refl
-
-both-true : (a b : Bool) → a ≡ true → b ≡ true → (a && b) ≡ true
-both-true true b x y = y
-both-true false b x y = absurd (cc x)
-
 -- a subpage that is not there has another number than each that is
 has-code : (chunks pages : ℕ) (t : ℕ × ℕ) (spots : List (ℕ × ℕ)) → t.1 < pages → AreWithin chunks pages spots
     → has_spot t.0 t.1 spots ≡ false
@@ -63,15 +48,15 @@ has-code chunks pages t [] page within none = refl
 has-code chunks pages t (s ∷ spots) page within none =
     ap (λ (b : Bool). b || has (code pages t) (map (code pages) spots)) first
     ∙ has-code chunks pages t spots page within.1
-    (or-second ((s.0 == t.0) && (s.1 == t.1)) (has_spot t.0 t.1 spots) none)
+    (or_parts ((s.0 == t.0) && (s.1 == t.1)) (has_spot t.0 t.1 spots) none).1
   where
     differ : (b : Bool) → (code pages s == code pages t) ≡ b → (code pages s == code pages t) ≡ false
     differ false e = e
     differ true same =
         let e = same-code chunks pages s t within.0.1 page (eqb-true (code pages s) (code pages t) same) in
         absurd (cc (
-          or-first ((s.0 == t.0) && (s.1 == t.1)) (has_spot t.0 t.1 spots) none,
-          both-true (s.0 == t.0)
+          (or_parts ((s.0 == t.0) && (s.1 == t.1)) (has_spot t.0 t.1 spots) none).0,
+          and_from (s.0 == t.0)
               (s.1 == t.1) (eq-eqb s.0 t.0 e.0) (eq-eqb s.1 t.1 e.1),
         ))
 
@@ -110,5 +95,5 @@ within-of chunks pages [] each = tt
 within-of chunks pages (s ∷ spots) each = (
   each s.0 s.1 (spot-first s.0 s.1 spots),
   within-of chunks pages spots (λ c p there. each c p
-      (ap (λ (b : Bool). ((s.0 == c) && (s.1 == p)) || b) there ∙ or-true ((s.0 == c) && (s.1 == p)))),
+      (ap (λ (b : Bool). ((s.0 == c) && (s.1 == p)) || b) there ∙ or_right ((s.0 == c) && (s.1 == p)) true refl)),
 )

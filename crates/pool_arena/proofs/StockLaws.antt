@@ -5,6 +5,7 @@ use Rattle.std.proofs.lemmas.Option.{slice_get-map}
 use Rattle.std.proofs.lemmas.List.{map-set, length-set, length-map}
 use Rattle.std.proofs.Math.Seq.{map-set_same}
 use Rattle.size_classes.specs.Sizes.{Geometry, IsGeometry, chunk_pages}
+use Rattle.size_classes.specs.Pages.{NoneEmpty}
 use Rattle.pool_law.specs.declared.report.ListName.{ListName}
 use Rattle.pool_law.specs.Chunks.{Chunk, usage}
 use Rattle.pool_law.specs.ChunkLists.{list_of}
@@ -16,7 +17,7 @@ use Rattle.chunk_list.specs.Listing.{Listing}
 use Rattle.chunk_list.specs.Settling.{settled, IsWithin}
 use Rattle.pool_arena.specs.Places.{PlaceState, runs_of}
 use Rattle.pool_arena.specs.Fronts.{FrontState}
-use Rattle.pool_arena.specs.Stocks.{arena_in}
+use Rattle.pool_arena.specs.Stocks.{StockState, arena_in}
 use Rattle.pool_arena.specs.Held.{stock_in, HasRoomAt, AreSettled, IsStock}
 use Rattle.pool_arena.specs.declared.stock.ChunkStock.TheInside.{Inside}
 use Rattle.pool_arena.proofs.ListLaws.{All-set, read-is, some-of}
@@ -44,6 +45,13 @@ module _ (s : Inside) (c : ℕ) (x : PlaceState) (found : slice_get s.places.ite
   place-geometry is =
       subst (λ (p : PlaceState). p.geometry ≡ s.classes) (read-is s.places.items c x x found)
       (is.places c x place-within)
+
+-- what is asked of the runs of a chunk is asked of those of its place
+pub some_at : (s : Inside) (v : StockState) (c : ℕ) (x : PlaceState) → stock_in s ≡ v
+    → slice_get s.places.items c ≡ Some x → NoneEmpty (chunk_at (arena_in v) c) → NoneEmpty (runs_of x)
+some_at s v c x same found some =
+    subst (λ (rs : Chunk). NoneEmpty rs)
+    (ap (λ (w : StockState). chunk_at (arena_in w) c) (sym same) ∙ place-chunk_at s c x found) some
 
 -- a place that has a chunk
 pub place-of : (s : Inside) (c : ℕ) (runs : Chunk) → chunk_of (arena_in (stock_in s)) c ≡ Some runs

@@ -10,6 +10,7 @@ use Rattle.pool_law.specs.declared.id.RegionId.{RegionId}
 use Rattle.pool_law.specs.Same.{same_place, same_taking}
 use Rattle.pool_law.proofs.SameLemmas.{and-first, same_place-is}
 use Rattle.arena_laws.specs.Slots.{EachOf, BeginElsewhere}
+use Rattle.arena_laws.proofs.ArenaSteps.{EachOf-push}
 use Rattle.pool_arena.specs.ArenaStates.{ArenaState, IsNew, IsSameArena, IsOutOf, IsInPlaceAt, IsInPlaceUnder, Takes, Gives, AtRest, without_taking}
 use Rattle.pool_arena.specs.Trials.{HasOut, IsTrial}
 use Rattle.pool_arena.proofs.OutLaws.{new-out, new-places, take-out, out-of, give-out, none-out, left-first, first-place}
@@ -44,10 +45,6 @@ stay-placed : (old new : ArenaState) (rs : List Region) → IsSameArena old new
 stay-placed old new [] same each = tt
 stay-placed old new (r ∷ rs) same each = (in-place old new r.id r.piece same each.0, stay-placed old new rs same each.1)
 
-and-last : {X : Type 0} (P : X → Type 0) (xs : List X) (x : X) → EachOf P xs → P x → EachOf P (xs ++ x ∷ [])
-and-last P [] x each last = (last, tt)
-and-last P (y ∷ ys) x each last = (each.0, and-last P ys x each.1 last)
-
 -- of 4 MiB the quarter is a class
 pub quarter-class : (a : ArenaState) (rs : List Region) → IsTrial a rs → 59 < class_count a.geometry
 quarter-class a rs t = subst (λ (g : Geometry). 59 < class_count g) (sym t.geometry) (lit< tt)
@@ -63,7 +60,8 @@ taken-trial old new rs r t takes here =
           subst (HasOut new) (sym (map-append id_of rs (r ∷ [])))
           (take-out old new 59 0 r.id (map id_of rs) t.out takes);
       placed =
-          and-last (λ (x : Region). IsInPlaceUnder new x.id x.piece) rs r (stay-placed old new rs takes.same t.placed)
+          EachOf-push (λ (x : Region). IsInPlaceUnder new x.id x.piece) rs r
+          (stay-placed old new rs takes.same t.placed)
           (first-place old new r.id r.piece t.number (takes.same.number ∙ t.number) takes.same.grounds here);
     }
 

@@ -1,6 +1,7 @@
 -- The chunks in the order in which they are asked.
-use Rattle.std.proofs.Common.{◌≡◌, ℕ, zero, suc, List, [], ◌∷◌, ◌++◌, drop, refl, ap, ◌∙◌, Bool, true, false, Some, None, eq-eqb}
+use Rattle.std.proofs.Common.{◌≡◌, ℕ, zero, suc, List, [], ◌∷◌, ◌++◌, drop, refl, ap, ◌∙◌, true, false, Some, None, eq-eqb}
 use Rattle.std.specs.Prelude.{Option, ◌==◌, ◌||◌, slice_get, option_map}
+use Rattle.std.proofs.lemmas.Bool.{or_parts, or_right}
 use Rattle.pool_law.specs.declared.id.RegionId.{RegionId}
 use Rattle.pool_law.specs.declared.report.ListName.TheVariants.{QInit, Q000, Q025, Q050, Q075}
 use Rattle.size_classes.specs.Pages.{Span}
@@ -30,25 +31,13 @@ drop-end (y ∷ xs) (suc k) e = drop-end xs k e
 has-there : (xs : List ℕ) (k c : ℕ) → slice_get xs k ≡ Some c → has c xs ≡ true
 has-there [] k c e = absurd (cc e)
 has-there (x ∷ xs) zero c e = let same : x ≡ c = cc e in ap (λ b. b || has c xs) (eq-eqb x c same)
-has-there (x ∷ xs) (suc k) c e = ap (λ b. (x == c) || b) (has-there xs k c e) ∙ or-true (x == c)
-  where
-    or-true : (b : Bool) → (b || true) ≡ true
-    or-true true = refl
-    or-true false = refl
+has-there (x ∷ xs) (suc k) c e = ap (λ b. (x == c) || b) (has-there xs k c e) ∙ or_right (x == c) true refl
 
 has-append : (c : ℕ) (xs ys : List ℕ) → has c xs ≡ false → has c ys ≡ false → has c (xs ++ ys) ≡ false
 has-append c [] ys none rest = rest
 has-append c (x ∷ xs) ys none rest =
-    ap (λ b. b || has c (xs ++ ys)) (or-first (x == c) (has c xs) none)
-    ∙ has-append c xs ys (or-second (x == c) (has c xs) none) rest
-  where
-    or-first : (a b : Bool) → (a || b) ≡ false → a ≡ false
-    or-first false b e = refl
-    or-first true b e = absurd (cc e)
-
-    or-second : (a b : Bool) → (a || b) ≡ false → b ≡ false
-    or-second false b e = e
-    or-second true b e = absurd (cc e)
+    ap (λ b. b || has c (xs ++ ys)) (or_parts (x == c) (has c xs) none).0
+    ∙ has-append c xs ys (or_parts (x == c) (has c xs) none).1 rest
 
 pub walked : (l : Lists) (k c : ℕ) → slice_get (walk l) k ≡ Some c → list_of l c ≡ None → ⊥
 walked l k c found none =

@@ -1,7 +1,7 @@
 -- The subpages of the small classes: whole elements, and few enough for the bits of a subpage.
-use Rattle.std.proofs.Common.{◌≡◌, ℕ, ◌-◌, ◌*◌, ◌/◌, ◌%◌, ◌<◌, ◌≤◌, Bool, true, false, ◌==◌, refl, sym, ap, ◌∙◌, eqb-true, leb-true, arith}
+use Rattle.std.proofs.Common.{◌≡◌, ℕ, ◌-◌, ◌*◌, ◌%◌, ◌<◌, ◌≤◌, Bool, true, ◌==◌, refl, eqb-true, leb-true}
 use Rattle.std.specs.Prelude.{◌&&◌, nat_le}
-use Rattle.std.proofs.lemmas.Bool.{agree_below_at}
+use Rattle.std.proofs.lemmas.Bool.{agree_below_at, and_parts}
 use Rattle.size_classes.specs.Sizes.{Geometry, IsPage, of_pages, page_shift, page_of, size_at, is_small, subpage_pages, element_count}
 use Rattle.size_classes.proofs.Geometries.{by_page}
 use Rattle.size_classes.proofs.SmallClasses.{small_below}
@@ -26,30 +26,22 @@ first_pass =
 all_pass : (g : Geometry) → IsPage g.page → (class : ℕ) → is_small g class ≡ true → passes g class ≡ true
 all_pass g h class small = first_pass g.page h class (small_below g h class small)
 
-left : (a b : Bool) → (a && b) ≡ true → a ≡ true
-left true b e = refl
-left false b e = e
-
-right : (a b : Bool) → (a && b) ≡ true → b ≡ true
-right true b e = e
-right false b e = absurd (cc e)
-
 module _ (g : Geometry) (h : IsPage g.page) (class : ℕ) (small : is_small g class ≡ true) where
   pub whole_elements : subpage_pages g class * page_of g % size_at class ≡ 0
   whole_elements =
       eqb-true (subpage_pages g class * page_of g % size_at class) 0
-      (left (subpage_pages g class * page_of g % size_at class == 0) _ (all_pass g h class small))
+      (and_parts (subpage_pages g class * page_of g % size_at class == 0) _ (all_pass g h class small)).0
 
   others : ((element_count g class * size_at class == page_of g * subpage_pages g class) && nat_le
       (element_count g class) 2048) ≡ true
-  others = right (subpage_pages g class * page_of g % size_at class == 0) _ (all_pass g h class small)
+  others = (and_parts (subpage_pages g class * page_of g % size_at class == 0) _ (all_pass g h class small)).1
 
   pub elements_fill : element_count g class * size_at class ≡ page_of g * subpage_pages g class
   elements_fill =
       eqb-true (element_count g class * size_at class) (page_of g * subpage_pages g class)
-      (left (element_count g class * size_at class == page_of g * subpage_pages g class) _ others)
+      (and_parts (element_count g class * size_at class == page_of g * subpage_pages g class) _ others).0
 
   pub few_elements : element_count g class ≤ 2048
   few_elements =
       leb-true (element_count g class) 2048
-      (right (element_count g class * size_at class == page_of g * subpage_pages g class) _ others)
+      (and_parts (element_count g class * size_at class == page_of g * subpage_pages g class) _ others).1

@@ -1,17 +1,12 @@
-use Rattle.std.proofs.Common.{◌≡◌, ℕ, ◌*◌, length, refl, sym, ap, ◌∙◌, subst, true, Some}
+use Rattle.std.proofs.Common.{◌≡◌, ◌*◌, length, refl, sym, ap, ◌∙◌, subst, true}
 use Rattle.std.specs.Vec.{with_item}
-use Rattle.std.specs.Prelude.{slice_get}
 use Rattle.size_classes.specs.Sizes.{Geometry, is_small, chunk_pages}
-use Rattle.size_classes.specs.Pages.{NoneEmpty}
 use Rattle.size_classes.specs.Elements.{is_idle, with_back}
-use Rattle.pool_law.specs.Chunks.{Chunk}
-use Rattle.pool_law.specs.Arenas.{chunk_at}
-use Rattle.pool_arena.specs.Places.{PlaceState, runs_of}
 use Rattle.pool_arena.specs.Fronts.{FrontState}
-use Rattle.pool_arena.specs.Stocks.{StockState, arena_in, Becomes, IsElementOutOf, element_back}
+use Rattle.pool_arena.specs.Stocks.{StockState, Becomes, IsElementOutOf, element_back}
 use Rattle.pool_arena.specs.Held.{stock_in}
 use Rattle.pool_arena.specs.declared.stock.ChunkStock.TheInside.{Inside}
-use Rattle.pool_arena.proofs.StockLaws.{place-chunk_at}
+use Rattle.pool_arena.proofs.StockLaws.{some_at}
 use Rattle.pool_arena.proofs.FrontsLaws.{front-found, rooms-set}
 use Rattle.pool_arena.proofs.ElementLaws.{elements-held}
 use Rattle.pool_arena.proofs.BackLaws.{out-found, out-sub, out-element, back-room, full-back, other-back, back-law}
@@ -74,12 +69,6 @@ stays c =
       lists = c.self.inside.lists;
       fronts = c.self.inside.fronts;
     }
-
-some_at : (s : Inside) (v : StockState) (c : ℕ) (x : PlaceState) → stock_in s ≡ v → slice_get s.places.items c ≡ Some x
-    → NoneEmpty (chunk_at (arena_in v) c) → NoneEmpty (runs_of x)
-some_at s v c x same found some =
-    subst (λ (rs : Chunk). NoneEmpty rs)
-    (ap (λ (w : StockState). chunk_at (arena_in w) c) (sym same) ∙ place-chunk_at s c x found) some
 
 pub invariant_of-self : goal.invariant_of-self
 invariant_of-self c =

@@ -2,17 +2,15 @@ use Rattle.std.proofs.Common.{◌≡◌, ℕ, ◌*◌, length, refl, sym, ap, �
 use Rattle.std.specs.Vec.{with_item}
 use Rattle.std.specs.Prelude.{slice_get, slice_index_or}
 use Rattle.size_classes.specs.Sizes.{chunk_pages}
-use Rattle.size_classes.specs.Pages.{NoneEmpty}
 use Rattle.size_classes.specs.Elements.{with_out}
-use Rattle.pool_law.specs.Chunks.{Chunk}
-use Rattle.pool_law.specs.Arenas.{chunk_at, take_element}
-use Rattle.pool_arena.specs.Places.{PlaceState, runs_of}
+use Rattle.pool_law.specs.Arenas.{take_element}
+use Rattle.pool_arena.specs.Places.{PlaceState}
 use Rattle.pool_arena.specs.Fronts.{FrontState}
-use Rattle.pool_arena.specs.Stocks.{StockState, arena_in, IsOpen, GivesPlace}
+use Rattle.pool_arena.specs.Stocks.{StockState, IsOpen, GivesPlace}
 use Rattle.pool_arena.specs.Held.{stock_in}
 use Rattle.pool_arena.specs.declared.stock.ChunkStock.TheInside.{Inside}
 use Rattle.pool_arena.proofs.ListLaws.{found-is}
-use Rattle.pool_arena.proofs.StockLaws.{place-chunk_at}
+use Rattle.pool_arena.proofs.StockLaws.{some_at}
 use Rattle.pool_arena.proofs.FrontsLaws.{front-found, rooms-set}
 use Rattle.pool_arena.proofs.ElementLaws.{open-sub, subpage-changed, elements-held, take-law, open-within, full-fronts, other-fronts}
 use Rattle.pool_arena.proofs.stock.ChunkStock.take_element.Goals as goal
@@ -25,12 +23,6 @@ open_at s v class c page same o = subst (λ (w : StockState). IsOpen w class c p
 abbrev found_at : (s : Inside) (class c page : ℕ) (x : PlaceState) → IsOpen (stock_in s) class c page
     → x ≡ slice_index_or s.places.items c x → slice_get s.places.items c ≡ Some x
 found_at s class c page x o here = found-is s.places.items c x (open-within s class c page o) here
-
-some_at : (s : Inside) (v : StockState) (c : ℕ) (x : PlaceState) → stock_in s ≡ v → slice_get s.places.items c ≡ Some x
-    → NoneEmpty (chunk_at (arena_in v) c) → NoneEmpty (runs_of x)
-some_at s v c x same found some =
-    subst (λ (rs : Chunk). NoneEmpty rs)
-    (ap (λ (w : StockState). chunk_at (arena_in w) c) (sym same) ∙ place-chunk_at s c x found) some
 
 pub take_element-piece-requires : goal.take_element-piece-requires
 take_element-piece-requires c =
