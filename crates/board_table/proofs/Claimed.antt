@@ -1,8 +1,6 @@
 -- A claim keeps the rule: it gets into a section where no view is, or finds another view there.
-use Rattle.std.proofs.Common.{◌≡◌, ◌≢◌, ℕ, ◌+◌, ◌*◌, ◌/◌, ◌%◌, ◌<◌, ◌≤◌, List, length, set, Bool, true, false, cond, eqb, sym, refl, ap, ◌∙◌, subst, arith, le_refl, length-set, get_or-set_same, get_or-set_other, eq-eqb, ne_eqb}
-use Rattle.std.specs.Prelude.{Option, Some, None, IfSome, slice_index, bit_or, bit_and}
-use Rattle.std.specs.Int.Bits.{or_add_and}
-use Rattle.std.proofs.lemmas.Nat.{and_mask}
+use Rattle.std.proofs.Common.{◌≡◌, ◌≢◌, ℕ, ◌+◌, ◌*◌, ◌/◌, ◌<◌, ◌≤◌, List, length, set, Bool, true, false, cond, eqb, sym, refl, ap, ◌∙◌, subst, arith, le_refl, length-set, get_or-set_same, get_or-set_other, eq-eqb, ne_eqb}
+use Rattle.std.specs.Prelude.{Option, Some, None, IfSome, slice_index, bit_or}
 use Rattle.std.proofs.lemmas.Bool.{eqb-true}
 use Rattle.std.proofs.lemmas.List.{set-get_or}
 use mathlib.Core.Logic.{dite}
@@ -12,6 +10,7 @@ use lib.ListN.{get_elem?}
 use Rattle.atomic_table.specs.Table.{State, Me, step, keeps, takes, Allows}
 use Rattle.atomic_table.proofs.Lists.{set_else, set_again}
 use Rattle.step_law.proofs.Changes.{each_at, each_set, sum_at, sum_two, sum_same}
+use Rattle.step_law.proofs.LowestBit.{or_even, or_odd}
 use Rattle.board_table.specs.declared.views.Stake.{Stake}
 use Rattle.board_table.specs.declared.views.Inside.{Inside}
 use Rattle.board_table.specs.declared.views.BoardView.{BoardView}
@@ -24,17 +23,6 @@ use Rattle.board_table.specs.Sections.{StandsFor}
 use Rattle.board_table.proofs.Totals.{adds, inside, total_same}
 use Rattle.board_table.proofs.Changes.{changes}
 use Rattle.board_table.proofs.CountSteps.{one_counts}
-
-or_one : (n : ℕ) → bit_or n 1 + n % 2 ≡ n + 1
-or_one n =
-    let a : bit_or n 1 + bit_and n 1 ≡ n + 1 = or_add_and n 1 in let b : bit_and n 1 ≡ n % 2 = and_mask n 1 in
-    omega (arith, a, b)
-
-pub or_even : (word n : ℕ) → word ≡ 2 * n → bit_or word 1 ≡ word + 1
-or_even word n e = let a = or_one word in let b : word % 2 ≡ 0 = omega (arith, e) in omega (arith, a, b)
-
-pub or_odd : (word n : ℕ) → word ≡ 2 * n + 1 → bit_or word 1 ≡ word
-or_odd word n e = let a = or_one word in let b : word % 2 ≡ 1 = omega (arith, e) in omega (arith, a, b)
 
 -- the section that a view is in
 pub section_at : (k : ℕ) (y : Option Inside) → 0 < is_at k y → (x : Inside) × (y ≡ Some x) × (x.composite ≡ k)

@@ -1,10 +1,10 @@
 -- What is known when the table is closed with the view that has all turns and sections.
-use Rattle.std.proofs.Common.{◌≡◌, ◌≢◌, ℕ, zero, suc, ◌+◌, ◌<◌, ◌≤◌, List, [], ◌∷◌, ◌++◌, length, sym, refl, ap, ◌∙◌, arith}
-use Rattle.std.specs.Prelude.{Option, Some, None, IfSome, sum_by, slice_get}
-use mathlib.Core.Option.{some, some-ne-none, some-injective}
+use Rattle.std.proofs.Common.{◌≡◌, ◌≢◌, ℕ, ◌+◌, ◌<◌, ◌≤◌, List, length, sym, refl, ap, ◌∙◌, arith}
+use Rattle.std.specs.Prelude.{Option, Some, None, IfSome, sum_by}
+use mathlib.Core.Option.{some}
 use lib.ListN.{get_elem?}
 use Rattle.atomic_table.specs.Table.{State, Final, Seen}
-use Rattle.step_law.proofs.Changes.{each_at, sum_two, sum_only}
+use Rattle.step_law.proofs.Changes.{each_at, sum_two, sum_only, in_list}
 use Rattle.board_table.specs.declared.views.Stake.{Stake}
 use Rattle.board_table.specs.declared.views.Inside.{Inside}
 use Rattle.board_table.specs.declared.views.BoardView.{BoardView}
@@ -13,18 +13,6 @@ use Rattle.board_table.specs.Views.{stake_of, total, inside_total, is_at, is_in,
 use Rattle.board_table.specs.Sound.{IsSound, IsView}
 use Rattle.board_table.specs.Closed.{HasAll, AreClosed}
 use Rattle.board_table.proofs.Stakes.{one_of}
-
--- the element that stands at a place
-pub stands_at : {A : Type 0} (l : List A) (k : ℕ) (a : A) → get_elem? l k ≡ some a → slice_get l k ≡ Some a
-stands_at [] k a e = absurd (some-ne-none a (sym e))
-stands_at (x ∷ xs) zero a e = ap Some (some-injective x a e)
-stands_at (x ∷ xs) (suc k) a e = stands_at xs k a e
-
--- the elements before one that is put behind them
-pub at_left : {A : Type 0} (l : List A) (a : A) (k : ℕ) → k < length l → get_elem? (l ++ a ∷ []) k ≡ get_elem? l k
-at_left [] a k lt = absurd (omega (arith, lt))
-at_left (x ∷ xs) a zero lt = refl
-at_left (x ∷ xs) a (suc k) lt = at_left xs a k (omega (arith, lt))
 
 module _ {H T : Type 0} (stands : T → ℕ → H → Type 0) (left : H → ℕ) (o : Opening T) where
   abbrev St : Type 0
@@ -64,7 +52,7 @@ module _ {H T : Type 0} (stands : T → ℕ → H → Type 0) (left : H → ℕ)
       record {
         many = many;
         left = λ k lt z. let h = (r.composites k lt).home_is (none_in k) (taken_is k ∙ z) in
-            (h.0, stands_at homes k (Some h.0) (laid k lt ∙ values k (Some h.0) h.1), h.2);
+            (h.0, in_list homes k (Some h.0) (laid k lt ∙ values k (Some h.0) h.1), h.2);
         taken = λ k lt p. let e = (r.composites k lt).empty (none_in k) (let a = taken_is k in omega (arith, a, p)) in
-            stands_at homes k None (laid k lt ∙ values k None e);
+            in_list homes k None (laid k lt ∙ values k None e);
       }

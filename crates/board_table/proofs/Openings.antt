@@ -1,6 +1,6 @@
 -- A table as it opens meets the rule.
-use Rattle.std.proofs.Common.{◌≡◌, ℕ, zero, suc, ◌+◌, ◌*◌, ◌^◌, ◌<◌, ◌≤◌, List, [], ◌∷◌, length, sym, refl, ap, ◌∙◌, subst, arith}
-use Rattle.std.specs.Prelude.{Option, Some, sum_by, slice_get, slice_index}
+use Rattle.std.proofs.Common.{◌≡◌, ℕ, ◌+◌, ◌*◌, ◌^◌, ◌<◌, ◌≤◌, List, [], ◌∷◌, length, sym, refl, ap, ◌∙◌, subst, arith}
+use Rattle.std.specs.Prelude.{Option, Some, sum_by, slice_index}
 use Rattle.std.proofs.lemmas.List.{get_or-replicate, get_or_past, length-replicate, length-map}
 use Rattle.std.proofs.lemmas.List.Elements.{All-nil, All-cons}
 use Rattle.std.proofs.lemmas.List.Folds.{sum_by-replicate}
@@ -8,7 +8,6 @@ use Rattle.std.proofs.lemmas.List.Sums.{sum_by-cons}
 use mathlib.Core.Logic.{dite}
 use native.Mathlib.Decide.{dec_le}
 use mathlib.Core.Option.{some}
-use lib.ListN.{get_elem?}
 use Rattle.atomic_table.specs.Table.{opening}
 use Rattle.atomic_table.proofs.Lists.{at_map}
 use Rattle.board_table.specs.declared.views.Stake.{Stake}
@@ -18,12 +17,7 @@ use Rattle.board_table.specs.Names.{named}
 use Rattle.board_table.specs.Views.{no_stake, more, stake_of, total, inside_total, spent, moved, first_view}
 use Rattle.board_table.specs.Sound.{IsSound, IsView, Knows, StandsIn, section_word, count_word, reserve}
 use Rattle.board_table.specs.Openings.{AreOpening, AreHomes}
-
--- the element that a list has at a place
-pub element : {A : Type 0} (l : List A) (k : ℕ) (a : A) → slice_get l k ≡ Some a → get_elem? l k ≡ some a
-element [] k a e = absurd (cc e)
-element (x ∷ xs) zero a e = let f : x ≡ a = cc e in ap some f
-element (x ∷ xs) (suc k) a e = element xs k a e
+use Rattle.step_law.proofs.Changes.{element_at}
 
 one_sum : (f : BoardView → ℕ) (v : BoardView) → sum_by f (v ∷ []) ≡ f v
 one_sum f v = let a = sum_by-cons f v [] in omega (arith, a)
@@ -74,7 +68,7 @@ module _ {H T : Type 0} (stands : T → ℕ → H → Type 0) (left : H → ℕ)
               counted = λ p. let goal : m + g ≡ 0 = omega (arith, tm', tk') in goal;
               home_is = λ out here. (
                 h.0,
-                at_map some slots k (Some h.0) (element slots k (Some h.0) h.1),
+                at_map some slots k (Some h.0) (element_at slots k (Some h.0) h.1),
                 subst (λ (y : Option T). StandsIn stands y k h.0) (sym name) h.2,
                 subst (λ (t : ℕ). reserve t ≤ left h.0) (sym (one_sum (λ (v : BoardView). v.turns) first)) h.3,
               );

@@ -10,7 +10,8 @@ use Rattle.pool_law.specs.declared.note.Did.{Did}
 use Rattle.pool_law.specs.declared.note.Did.TheVariants.{Take, Full, Give}
 use Rattle.pool_law.specs.Same.{same_taking, same_region}
 use Rattle.pool_law.specs.Arenas.{Arena as ArenaState, arena_step, take, take_class, noted_taking, region_of, as_noted, if_none, is_out_of, give}
-use Rattle.history_laws.proofs.Names.{same_taking-is, same_region-is}
+use Rattle.pool_law.proofs.SameLemmas.{same_region-is}
+use Rattle.history_laws.proofs.Names.{same_taking-is}
 use Rattle.history_laws.proofs.Frames.{Leaves, take_leaves, given_leaves}
 use Rattle.history_laws.proofs.BinSteps.{so}
 

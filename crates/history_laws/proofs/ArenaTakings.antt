@@ -268,7 +268,7 @@ unused_step a q x (Full c) y s = refl
 unused_step a q x (Give r) y s = refl
 unused_step a q x d y s = absurd s
 
-none_noted : (h : List Noted) → sum_by (λ (n : Noted). 0) h ≡ 0
+pub none_noted : (h : List Noted) → sum_by (λ (n : Noted). 0) h ≡ 0
 none_noted [] = refl
 none_noted (n ∷ h) = let a = none_noted h in let c = sum_by-cons (λ (n : Noted). 0) n h in omega (arith, a, c)
 

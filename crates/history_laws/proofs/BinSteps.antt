@@ -7,8 +7,8 @@ use Rattle.pool_law.specs.declared.run.Shape.{Shape}
 use Rattle.pool_law.specs.declared.note.Did.{Did}
 use Rattle.pool_law.specs.declared.note.Did.TheVariants.{Handle, NoHandle, Home}
 use Rattle.pool_law.specs.Caches.{front_taken, if_so, is_empty, has_place, bin_step}
+use Rattle.pool_law.proofs.SameLemmas.{and-first}
 use Rattle.history_laws.specs.NoteCounts.{place_lane}
-use Rattle.history_laws.proofs.Names.{and-first}
 
 -- what a test lets through
 pub so : {X : Type 0} (b : Bool) (x m : X) → if_so b x ≡ Some m → (b ≡ true) × (x ≡ m)

@@ -7,7 +7,7 @@ use Rattle.pool_law.specs.declared.note.Did.TheVariants.{Hit, Miss, Kept, Back, 
 use Rattle.pool_law.specs.Same.{same_region}
 use Rattle.pool_law.specs.Caches.{Cache as CacheState, front_taken, if_so, is_empty, cache_step, lane_cache_step, is_own, after_hit, after_shed, refusal_is, trim_quota}
 use Rattle.pool_law.specs.Limits.{cache_capacity}
-use Rattle.history_laws.proofs.Names.{and-first, and-second, same_region-is}
+use Rattle.pool_law.proofs.SameLemmas.{and-first, and-second, same_region-is}
 use Rattle.history_laws.proofs.BinSteps.{so}
 
 -- the cache x of the lane l and the class c becomes y

@@ -10,7 +10,7 @@ use Rattle.pool_law.specs.Same.{same_root, same_bytes}
 use Rattle.pool_law.specs.Caches.{if_so}
 use Rattle.pool_law.specs.Roots.{RootPlace, Present, place_step, place_step_by, may_be_born, born, laid_over, bytes_at, with_bytes, zeros_to}
 use Rattle.pool_law.specs.Logs.{region_for}
-use Rattle.history_laws.proofs.Names.{and-first, and-second, same_root-is}
+use Rattle.pool_law.proofs.SameLemmas.{and-first, and-second, same_root-is}
 use Rattle.history_laws.proofs.BinSteps.{so}
 
 -- the root that is present, and its region

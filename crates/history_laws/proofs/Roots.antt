@@ -24,6 +24,7 @@ use Rattle.history_laws.proofs.ArenaSteps.{IsArenaStep}
 use Rattle.history_laws.proofs.CacheSteps.{IsCacheStep}
 use Rattle.history_laws.proofs.PlaceSteps.{IsPlaceStep, FitsPlace, root_in}
 use Rattle.history_laws.proofs.Told.{no_mail, place_note, place_runs, place_fits, last_place, last_bin, last_arena, last_cache}
+use Rattle.history_laws.proofs.ArenaTakings.{at_most, none_noted}
 
 same_one : (a b : RootId) → Some a ≡ Some b → a ≡ b
 same_one a b e = ap (λ (o : Option RootId). unwrap_or o a) e
@@ -37,6 +38,12 @@ none_in y e = ap (λ (o : Option Present). option_root o) e
   where
     option_root : Option Present → Option RootId
     option_root o = root_in (record { generation = 0; present = o })
+
+-- a root is born as itself
+pub its_birth : (r : RootId) (z : RegionId) → did_birth_as r.place r.generation r.capacity (Birth r z) ≡ 1
+its_birth r z = λ i. cond {A = ℕ}
+    ((eq-eqb r.place r.place refl i && eq-eqb r.generation r.generation refl i)
+    && eq-eqb r.capacity r.capacity refl i) 1 0
 
 here : (p n : ℕ) (r : RootId) → r.place ≡ p → r.generation ≡ n → did_end p n (End r) ≡ 1
 here p n r a b =
@@ -155,16 +162,12 @@ step_births p x (Extend c) region y t = let b = t.generation in omega (arith, b)
 step_births p x (Grow c z) region y t = let b = t.generation in omega (arith, b)
 step_births p x d region y t = absurd t
 
-sum_none : (h : List Noted) → sum_by (λ (n : Noted). 0) h ≡ 0
-sum_none [] = refl
-sum_none (n ∷ h) = let a = sum_none h in let c = sum_by-cons (λ (n : Noted). 0) n h in omega (arith, a, c)
-
 pub place_births : (s : Shape) (p : ℕ) (h : List Noted) (x : RootPlace) → IsHistory s (Root p) h → IsPlaceAfter p h x
     → sum_by (λ (n : Noted). did_birth p n.did) h ≡ x.generation
 place_births s p h x t e =
     let a = balance (place_note p) (λ x. x.generation) (λ n. did_birth p n.did) (λ n. 0)
     (λ x y n step. step_births p x n.did n.region y step) h new_place x (place_runs s p h x t e) in
-    let z = sum_none h in omega (arith, a, z)
+    let z = none_noted h in omega (arith, a, z)
 
 -- so many births of each generation were noted where n roots were born
 record IsBornOnce (n : ℕ) (births : ℕ → ℕ) : Type 0 where
@@ -179,10 +182,6 @@ same_born n m e f mn same k = record {
   never = same 0 ∙ k.never;
 }
 
-at_most_one : (b : Bool) → cond {A = ℕ} b 1 0 ≤ 1
-at_most_one true = omega arith
-at_most_one false = omega arith
-
 step_born : (p : ℕ) (x : RootPlace) (d : Did) (region : Option RegionId) (y : RootPlace) (e : ℕ → ℕ)
     → IsPlaceStep p x d region y → IsBornOnce x.generation e → IsBornOnce y.generation (λ g. e g + did_birth_of p g d)
 step_born p x (Birth r z) region y e t k =
@@ -191,7 +190,7 @@ step_born p x (Birth r z) region y e t k =
     record {
       once =
           λ g. let le =
-          at_most_one ((eqb r.place p) && (eqb r.generation g)) in let old = k.once g in dite (ℕ_discrete g (n + 1))
+          at_most ((eqb r.place p) && (eqb r.generation g)) in let old = k.once g in dite (ℕ_discrete g (n + 1))
           (λ q. let b = k.beyond g (omega (arith, q)) in omega (arith, le, b))
           (λ ne. let b = elsewhere p g r (λ q. ne (sym q ∙ gen)) in omega (arith, old, b));
       beyond =

@@ -12,8 +12,8 @@ use Rattle.pool_law.specs.declared.note.RefDid.{RefDid}
 use Rattle.pool_law.specs.declared.note.RefDid.TheVariants.{Born}
 use Rattle.pool_law.specs.declared.note.Object.{Object}
 use Rattle.pool_law.specs.Same.{same_taking}
+use Rattle.pool_law.proofs.PatternLemmas.{same_taking-refl, same_root-refl}
 use Rattle.history_laws.specs.NoteCounts.{is_root, is_taking, uses_in, did_handle, did_home, did_birth, did_birth_of, did_birth_as, did_end_of, view_of_root, did_fetch_of, did_post_of, arena_out, arena_in, cache_out, cache_in, weight_or, ended_region, place_in}
-use Rattle.history_laws.proofs.Names.{same_taking-refl, same_root-refl}
 use Rattle.pool_table.specs.declared.views.Entry.{Entry}
 use Rattle.pool_table.specs.declared.views.Entry.TheVariants.{At, Ref}
 use Rattle.pool_table.specs.declared.views.SeatView.{SeatView}

@@ -1,6 +1,6 @@
 -- A birth that a view noted and has not made, by its generation, is one of its place.
 use Rattle.step_law.specs.Settings.{Setting}
-use Rattle.std.proofs.Common.{◌≡◌, ℕ, zero, suc, ◌+◌, ◌*◌, ◌<◌, ◌≤◌, Bool, true, false, cond, eqb, List, [], ◌∷◌, refl, ap, inl, inr, arith, ne_eqb}
+use Rattle.std.proofs.Common.{◌≡◌, ℕ, zero, suc, ◌+◌, ◌*◌, ◌<◌, ◌≤◌, Bool, true, false, cond, eqb, List, [], ◌∷◌, refl, ap, inl, inr, arith}
 use Rattle.std.specs.Prelude.{◌&&◌, Option, sum_by}
 use Rattle.std.proofs.lemmas.List.Sums.{sum_by-cons, sum_by-le-sum_by}
 use mathlib.Core.Logic.{dite}
@@ -25,25 +25,10 @@ use Rattle.pool_table.specs.Holders.{sum_to}
 use Rattle.pool_table.specs.Sound.{IsSound, IsView}
 use Rattle.pool_table.proofs.Ledgers.{sum_add}
 use Rattle.pool_table.proofs.Lone.{slack}
-use Rattle.pool_table.proofs.Partition.{sum_to_none}
+use Rattle.pool_table.proofs.Partition.{sum_to_none, picked_most}
 use Rattle.pool_table.proofs.Presence.{next_birth}
 
 -- ---- Sums by number.
-
--- what has one number weighs no more than it does in all
-keyed : (n j x : ℕ) → sum_to n (λ i. cond {A = ℕ} (eqb j i) x 0) ≤ x
-keyed zero j x = omega arith
-keyed (suc n) j x = dite (ℕ_discrete j n)
-    (λ e. let none = sum_to_none n (λ i. cond {A = ℕ} (eqb j i) x 0)
-    (λ i below. ap (λ (c : Bool). cond {A = ℕ} c x 0) (ne_eqb j i (λ q. omega (arith, q, below, e)))) in
-    let most = at_most (eqb j n) in omega (arith, none, most))
-    (λ ne. let rest = keyed n j x in
-    let z : cond {A = ℕ} (eqb j n) x 0 ≡ 0 = ap (λ (c : Bool). cond {A = ℕ} c x 0) (ne_eqb j n ne) in
-    omega (arith, rest, z))
-  where
-    at_most : (b : Bool) → cond {A = ℕ} b x 0 ≤ x
-    at_most true = omega arith
-    at_most false = omega arith
 
 -- sums of sums
 swapped : {A : Type 0} (n : ℕ) (f : ℕ → A → ℕ) (l : List A)
@@ -85,7 +70,7 @@ steps_by n p (Ref q d) = by (eqb q.place p)
   where
     by : (b : Bool) → sum_to n (λ i. cond {A = ℕ} (b && eqb q.generation i) (ref_born d) 0)
         ≤ cond {A = ℕ} b (ref_born d) 0
-    by true = keyed n q.generation (ref_born d)
+    by true = picked_most n q.generation (ref_born d)
     by false = let a = sum_to_none n (λ i. 0) (λ i lt. refl) in omega (arith, a)
 steps_by n p (Busy b) = let a = sum_to_none n (λ i. 0) (λ i lt. refl) in omega (arith, a)
 
@@ -93,7 +78,7 @@ notes_by : (n p : ℕ) (e : Entry) → sum_to n (λ i. at_birth_of p i e) ≤ at
 notes_by n p (At o k m) = of m.did
   where
     by : (q : ℕ) (b : Bool) → sum_to n (λ i. cond {A = ℕ} (b && eqb q i) 1 0) ≤ cond {A = ℕ} b 1 0
-    by q true = keyed n q 1
+    by q true = picked_most n q 1
     by q false = let a = sum_to_none n (λ i. 0) (λ i lt. refl) in omega (arith, a)
 
     of : (d : Did) → sum_to n (λ i. did_birth_of p i d) ≤ did_birth p d

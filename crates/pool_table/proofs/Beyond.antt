@@ -1,5 +1,5 @@
 -- The counts beyond the first, added up over all root places: they are the retains that no release took back.
-use Rattle.std.proofs.Common.{◌≡◌, ℕ, zero, suc, ◌+◌, ◌-◌, ◌*◌, ◌<◌, ◌≤◌, List, [], ◌∷◌, cond, eqb, refl, ◌∙◌, subst, arith}
+use Rattle.std.proofs.Common.{◌≡◌, ℕ, zero, suc, ◌+◌, ◌-◌, ◌*◌, ◌<◌, ◌≤◌, List, [], ◌∷◌, refl, subst, arith}
 use Rattle.std.specs.Prelude.{Option, All, sum_by}
 use Rattle.std.proofs.lemmas.List.Elements.{All-head, All-tail, All-weaker}
 use Rattle.std.proofs.lemmas.List.Sums.{sum_by-cons, sum_by-le-sum_by}
@@ -15,7 +15,7 @@ use Rattle.pool_table.specs.Views.{parts_of}
 use Rattle.pool_table.specs.Counts.{IsCounted, on_any, on_place, place_tally, reached, returned, ref_retain, ref_kept, weigh}
 use Rattle.pool_table.specs.Holders.{sum_to}
 use Rattle.pool_table.specs.Sound.{Stands}
-use Rattle.pool_table.proofs.Partition.{sum_to_same, sum_to_add, sum_to_none, sum_to_one, sum_to_le}
+use Rattle.pool_table.proofs.Partition.{sum_to_same, sum_to_add, sum_to_none, sum_to_le, picked}
 
 -- where one summand is more by x and none is less
 pub more_to : (n : ℕ) (f g : ℕ → ℕ) (i x : ℕ) → i < n → ((k : ℕ) → k < n → g k ≤ f k) → g i + x ≤ f i
@@ -37,13 +37,6 @@ swapped {X} n f F (x ∷ xs) all =
     let b = sum_to_add n (λ i. f i x) (λ i. sum_by (f i) xs) in
     let c = All-head P x xs all in let d = swapped n f F xs (All-tail P x xs all) in let e = sum_by-cons F x xs in
     omega (arith, a, b, c, d, e)
-
-picked : (n j x : ℕ) → j < n → sum_to n (λ i. cond {A = ℕ} (eqb j i) x 0) ≡ x
-picked n j x lt =
-    sum_to_same n (λ i. cond {A = ℕ} (eqb j i) x 0) (λ i. cond {A = ℕ} (eqb (0 + j) (0 + i)) x 0)
-    (λ i. let a : j ≡ 0 + j = omega arith in let b : i
-    ≡ 0 + i = omega arith in λ k. cond {A = ℕ} (eqb (a k) (b k)) x 0)
-    ∙ sum_to_one n j x 0 lt
 
 module _ (s : Shape) (w : RefDid → ℕ) where
   abbrev places : ℕ

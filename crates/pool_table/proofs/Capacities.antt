@@ -28,10 +28,10 @@ use Rattle.pool_law.specs.Logs.{present_in, root_for}
 use Rattle.pool_law.specs.Counts.{root_is}
 use Rattle.pool_law.specs.Capacities.{reach_of, told_by, known_of}
 use Rattle.pool_law.specs.Roots.{Present, RootPlace, new_place, place_step, place_step_by}
+use Rattle.pool_law.proofs.SameLemmas.{and-first, same_root-is}
 use Rattle.history_laws.specs.Histories.{IsHistory, IsPlaceAfter}
 use Rattle.history_laws.specs.NoteCounts.{one_if_so, did_birth, did_birth_as, did_end}
 use Rattle.history_laws.proofs.BinSteps.{so}
-use Rattle.history_laws.proofs.Names.{and-first, same_root-is}
 use Rattle.history_laws.proofs.Runs.{last_note, right_last}
 use Rattle.history_laws.proofs.Told.{place_there, place_fits}
 use Rattle.pool_table.specs.declared.views.Entry.{Entry}

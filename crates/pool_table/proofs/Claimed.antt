@@ -11,6 +11,7 @@ use lib.ListN.{get_elem?}
 use Rattle.atomic_table.specs.Table.{State, Me, Act, Valid, stepped, carried_after, step, keeps, takes, Allows}
 use Rattle.atomic_table.proofs.Lists.{set_else, set_again, at_map}
 use Rattle.step_law.proofs.Changes.{each_at}
+use Rattle.step_law.proofs.LowestBit.{or_even, or_odd}
 use Rattle.pool_law.specs.declared.note.Noted.{Noted}
 use Rattle.pool_law.specs.declared.note.Object.{Object}
 use Rattle.pool_law.specs.declared.note.Object.TheVariants.{Root}
@@ -47,7 +48,7 @@ use Rattle.pool_table.specs.Steps.{IsFree}
 use Rattle.pool_table.specs.Steps.{GotIn, claims}
 use Rattle.pool_table.proofs.Objects.{claimed_kept}
 use Rattle.pool_table.proofs.Tables.{changes, short, holder}
-use Rattle.pool_table.proofs.Entries.{outside_object_view, or_even, under, inside_object_view, away_object_view, not_idle, or_odd}
+use Rattle.pool_table.proofs.Entries.{outside_object_view, under, inside_object_view, away_object_view, not_idle}
 
 module _ {H : Type 0} (stands : List ℕ → Setting → List Noted → H → Type 0) (l : Layout) where
   -- the section of a view that is in it
@@ -174,12 +175,13 @@ module _ {H : Type 0} (stands : List ℕ → Setting → List Noted → H → Ty
       let kept = claimed_kept stands l.shape r.setting o (map (object_view l.shape i) s.views) word
       (get_elem? s.homes d)
       (get_elem? (set s.homes d none) d) id (object_view l.shape i v) x k there nobody refl refl in
+      let free : bit_or word 1 ≡ word + 1 = or_even word n (let e : word ≡ 2 * n = omega (arith, w0) in e) in
       let kept' : IsKept stands l.shape r.setting o
       (set (map (object_view l.shape i) s.views) id (object_view l.shape i w))
       (bit_or word 1) (get_elem? (set s.homes d none) d) =
       subst (λ (y : ObjectView × ℕ). IsKept stands l.shape r.setting o
       (set (map (object_view l.shape i) s.views) id y.0) y.1
-      (get_elem? (set s.homes d none) d)) (λ q. (sym wf q, sym (or_even word n w0) q)) kept in (
+      (get_elem? (set s.homes d none) d)) (λ q. (sym wf q, sym free q)) kept in (
         w,
         takes d (Some hv.0),
         hv.1,

@@ -13,6 +13,7 @@ use Rattle.pool_law.specs.declared.note.Noted.{Noted}
 use Rattle.pool_law.specs.declared.id.RootId.{RootId}
 use Rattle.pool_law.specs.declared.note.RefDid.{RefDid}
 use Rattle.pool_law.specs.declared.note.RefDid.TheVariants.{Retain, Kept, Ended, Vacated, Look}
+use Rattle.pool_law.proofs.PatternLemmas.{same_root-refl}
 use Rattle.pool_table.specs.Slots.{slots_of}
 use Rattle.pool_table.specs.Words.{count_word_of}
 use Rattle.pool_table.specs.declared.views.Entry.TheVariants.{Ref}
@@ -26,7 +27,6 @@ use Rattle.pool_table.specs.Looks.{IsLookRight, retains_in}
 use Rattle.pool_table.specs.Sequence.{Leave}
 use Rattle.pool_table.proofs.Fitting.{left_here, vacated_fits}
 use Rattle.pool_table.proofs.Exact.{count_at, count_born, token_at, token_born, ended_at, none_ended}
-use Rattle.history_laws.proofs.Names.{same_root-refl}
 use Rattle.pool_table.specs.Sound.{IsSound, IsView}
 use Rattle.pool_table.specs.Steps.{retains, looks, releases, vacates}
 use Rattle.pool_table.proofs.AtPlace.{TokenAt}

@@ -1,9 +1,7 @@
 -- A view with one entry more, as each object sees it.
 use Rattle.step_law.specs.Settings.{Setting}
-use Rattle.std.proofs.Common.{◌≡◌, ◌≢◌, ℕ, ◌+◌, ◌*◌, ◌%◌, ◌<◌, ◌≤◌, List, [], ◌∷◌, ◌++◌, map, Bool, true, false, cond, sym, refl, ap, ◌∙◌, subst, arith, eq-eqb, ne_eqb}
-use Rattle.std.specs.Prelude.{Option, Some, None, IfSome, All, sum_by, count_by, bit_or, bit_and}
-use Rattle.std.specs.Int.Bits.{or_add_and}
-use Rattle.std.proofs.lemmas.Nat.{and_mask}
+use Rattle.std.proofs.Common.{◌≡◌, ◌≢◌, ℕ, ◌+◌, ◌<◌, ◌≤◌, List, [], ◌∷◌, ◌++◌, map, Bool, true, false, cond, sym, refl, ap, ◌∙◌, subst, arith, eq-eqb, ne_eqb}
+use Rattle.std.specs.Prelude.{Option, Some, None, IfSome, All, sum_by, count_by}
 use Rattle.std.proofs.lemmas.List.Elements.{All-cons, All-head, All-tail, All-push}
 use Rattle.std.proofs.lemmas.List.Sums.{sum_by-cons, sum_by_push}
 use Rattle.pool_law.specs.declared.note.Held.{Held}
@@ -22,17 +20,6 @@ use Rattle.pool_table.proofs.Weights.{IsWeighedSame, settled_same, enters_none}
 use Rattle.pool_table.specs.Order.{IsBelow}
 use Rattle.pool_table.specs.Sound.{IsView, Stands}
 use Rattle.pool_table.proofs.Tables.{object_part_skips, object_part_takes}
-
-or_one : (n : ℕ) → bit_or n 1 + n % 2 ≡ n + 1
-or_one n =
-    let a : bit_or n 1 + bit_and n 1 ≡ n + 1 = or_add_and n 1 in let b : bit_and n 1 ≡ n % 2 = and_mask n 1 in
-    omega (arith, a, b)
-
-pub or_even : (word n : ℕ) → word ≡ 2 * n + 0 → bit_or word 1 ≡ word + 1
-or_even word n e = let a = or_one word in let b : word % 2 ≡ 0 = omega (arith, e) in omega (arith, a, b)
-
-pub or_odd : (word n : ℕ) → word ≡ 2 * n + 1 → bit_or word 1 ≡ word
-or_odd word n e = let a = or_one word in let b : word % 2 ≡ 1 = omega (arith, e) in omega (arith, a, b)
 
 pub under : (x : Option Setting) (gs : Setting) (P : Setting → Type 0) → IfSome x (λ (g : Setting). g ≡ gs) → P gs
     → IfSome x P

@@ -16,9 +16,9 @@ use Rattle.pool_law.specs.Histories.{place_after}
 use Rattle.pool_law.specs.NotedHistories.{noted_dids, IsRightAt}
 use Rattle.pool_law.specs.Logs.{present_in, root_for}
 use Rattle.pool_law.specs.Counts.{root_is}
+use Rattle.pool_law.proofs.SameLemmas.{and-first, and-second}
 use Rattle.history_laws.specs.Histories.{IsHistory, IsPlaceAfter}
 use Rattle.history_laws.proofs.BinSteps.{so}
-use Rattle.history_laws.proofs.Names.{and-first, and-second}
 use Rattle.history_laws.proofs.Runs.{Runs, told, next_note}
 use Rattle.history_laws.proofs.PlaceSteps.{FitsPlace}
 use Rattle.history_laws.proofs.Told.{place_fits}

@@ -15,9 +15,10 @@ use Rattle.pool_law.specs.Same.{same_root}
 use Rattle.pool_law.specs.Roots.{RootPlace, Present, new_place}
 use Rattle.pool_law.specs.Logs.{root_for}
 use Rattle.pool_law.specs.Counts.{root_is}
+use Rattle.pool_law.proofs.SameLemmas.{and-first, and-second, same_root-is}
+use Rattle.pool_law.proofs.PatternLemmas.{same_root-refl}
 use Rattle.history_laws.specs.Histories.{IsHistory, IsPlaceAfter}
 use Rattle.history_laws.specs.NoteCounts.{one_if_so}
-use Rattle.history_laws.proofs.Names.{and-first, and-second, same_root-is, same_root-refl}
 use Rattle.history_laws.proofs.Runs.{Runs}
 use Rattle.history_laws.proofs.PlaceSteps.{FitsPlace}
 use Rattle.history_laws.proofs.Told.{place_fits}

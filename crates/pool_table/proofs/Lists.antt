@@ -1,6 +1,6 @@
--- Lists cut at one of their elements.
-use Rattle.std.proofs.Common.{◌≡◌, ◌⊎◌, inl, inr, ⊎_elim, List, [], ◌∷◌, ◌++◌, refl, sym, ap}
-use Rattle.std.specs.Prelude.{All}
+-- Lists cut at one of their elements, and lists of two.
+use Rattle.std.proofs.Common.{◌≡◌, ◌⊎◌, inl, inr, ⊎_elim, ℕ, ◌<◌, List, [], ◌∷◌, ◌++◌, length, refl, sym, ap, ◌∙◌, subst, arith, length-append}
+use Rattle.std.specs.Prelude.{All, HoldsAt}
 use Rattle.std.proofs.lemmas.List.Elements.{All-nil, All-cons, All-head, All-tail}
 
 -- where a list with one element more is cut: at that element, or before it
@@ -37,3 +37,19 @@ all_two P Q R f [] a b = All-nil R
 all_two P Q R f (x ∷ xs) a b =
     All-cons R x xs (f x (All-head P x xs a) (All-head Q x xs b))
     (all_two P Q R f xs (All-tail P x xs a) (All-tail Q x xs b))
+
+-- the last two of two elements
+pub two_last : {X : Type 0} (P : ℕ → X → Type 0) (items rest less : List X) (a b : X) → length items ≡ 2
+    → items ≡ rest ++ b ∷ [] → rest ≡ less ++ a ∷ [] →
+    ((k : ℕ) → k < 2 → HoldsAt (P k) items k) → P 0 a × P 1 b
+two_last {X} P items rest less a b many e f each = go less (e ∙ ap (λ (r : List X). r ++ b ∷ []) f)
+  where
+    go : (less : List X) → items ≡ (less ++ a ∷ []) ++ b ∷ [] → P 0 a × P 1 b
+    go [] is =
+        let all : (k : ℕ) → k < 2 → HoldsAt (P k) (a ∷ b ∷ []) k =
+        subst (λ (l : List X). (k : ℕ) → k < 2 → HoldsAt (P k) l k) is each in
+        (all 0 (omega arith) a, all 1 (omega arith) a)
+    go (x ∷ xs) is =
+        let n = ap (λ (l : List X). length l) is in let u = length-append ((x ∷ xs) ++ a ∷ []) (b ∷ []) in let v =
+        length-append (x ∷ xs) (a ∷ []) in
+        absurd (omega (arith, n, u, v, many))

@@ -25,10 +25,10 @@ use Rattle.pool_law.specs.Same.{same_root, same_bytes}
 use Rattle.pool_law.specs.Logs.{present_in, root_for}
 use Rattle.pool_law.specs.Counts.{root_is}
 use Rattle.pool_law.specs.Roots.{RootPlace, Present, new_place, born, may_be_born, with_bytes, laid_over, bytes_at, zeros_to, place_step, place_step_by}
+use Rattle.pool_law.proofs.PatternLemmas.{same_root-refl}
 use Rattle.history_laws.specs.Histories.{IsHistory, IsPlaceAfter}
 use Rattle.history_laws.specs.NoteCounts.{one_if_so, did_birth, did_birth_as, did_end, did_end_of}
 use Rattle.history_laws.proofs.BinSteps.{so}
-use Rattle.history_laws.proofs.Names.{same_root-refl}
 use Rattle.history_laws.proofs.Runs.{Runs, told, next_note}
 use Rattle.pool_table.specs.declared.views.Entry.{Entry}
 use Rattle.pool_table.specs.declared.views.Entry.TheVariants.{At, Ref, Busy}

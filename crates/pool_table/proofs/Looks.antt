@@ -147,7 +147,7 @@ looks_open v none_of =
 -- ---- A look.
 
 -- a gain is a birth or a retain
-gain_is : (p g : ℕ) (e : Entry) → on_root ref_gain p g e ≡ on_root ref_born p g e + on_root ref_retain p g e
+pub gain_is : (p g : ℕ) (e : Entry) → on_root ref_gain p g e ≡ on_root ref_born p g e + on_root ref_retain p g e
 gain_is p g (At o k n) = refl
 gain_is p g (Busy b) = refl
 gain_is p g (Ref r d) = by (is_root p g r) d

@@ -1,9 +1,10 @@
 -- At the close, the notes of a mail in the parts of its two lanes: what is fetched is the front of what is posted.
 use Rattle.step_law.specs.Settings.{Setting}
-use Rattle.std.proofs.Common.{◌≡◌, ◌⊎◌, inl, inr, ⊎_elim, ℕ, zero, suc, ◌+◌, ◌<◌, ◌≤◌, List, [], ◌∷◌, ◌++◌, map, length, Bool, true, false, cond, eqb, sym, refl, ap, ◌∙◌, subst, arith, eq-eqb, ne_eqb, eqb-true}
-use Rattle.std.specs.Prelude.{Option, Some, None, All, sum_by, slice_get, take, if◌then◌else◌, ◌&&◌}
+use Rattle.std.proofs.Common.{◌≡◌, ◌⊎◌, inl, inr, ⊎_elim, ℕ, zero, suc, ◌+◌, ◌<◌, ◌≤◌, List, [], ◌∷◌, ◌++◌, map, Bool, true, false, cond, eqb, sym, refl, ap, ◌∙◌, subst, arith, eq-eqb, eqb-true}
+use Rattle.std.specs.Prelude.{Option, Some, None, All, sum_by, slice_get, if◌then◌else◌, ◌&&◌}
 use Rattle.std.proofs.lemmas.List.Elements.{All-head, All-weaker}
 use Rattle.std.proofs.lemmas.List.Sums.{sum_by-cons}
+use Rattle.std.proofs.lemmas.Cmp.{nat_eq_equiv}
 use mathlib.Core.Logic.{dite}
 use native.Mathlib.Decide.{ℕ_discrete}
 use mathlib.Core.Option.{some}
@@ -16,7 +17,8 @@ use Rattle.pool_law.specs.declared.note.Object.TheVariants.{Mail}
 use Rattle.pool_law.specs.Kinds.{Passing, Stays, Goes, Comes, passing}
 use Rattle.pool_law.specs.Mails.{posted, fetched, gone, come, MailHolds}
 use Rattle.pool_law.specs.Same.{same_object}
-use Rattle.history_laws.proofs.Names.{and-first, and-second}
+use Rattle.pool_law.proofs.SameLemmas.{and-first, and-second}
+use Rattle.pool_law.proofs.ListLemmas.{front-from-places}
 use Rattle.pool_table.specs.declared.views.Entry.{Entry}
 use Rattle.pool_table.specs.declared.views.Entry.TheVariants.{At, Ref, Busy}
 use Rattle.pool_table.specs.declared.views.Layout.{Layout}
@@ -40,10 +42,6 @@ law_note (Busy b) = Note.Busy b
 
 abbrev pub notes_of : List Entry → List Note
 notes_of es = map law_note es
-
-eqb_sym : (x y : ℕ) → eqb x y ≡ eqb y x
-eqb_sym x y = dite (ℕ_discrete x y) (λ e. eq-eqb x y e ∙ sym (eq-eqb y x (sym e)))
-    (λ ne. ne_eqb x y ne ∙ sym (ne_eqb y x (λ e. ne (sym e))))
 
 -- ---- The letters of a way in a list of entries, by their places.
 module _ (a b : ℕ) (has : Entry → Option Letter) (lists : List Entry → List (ℕ × Parcel)) (none : lists [] ≡ []) where
@@ -135,7 +133,7 @@ module _ (a b : ℕ) where
   nothing_more false xs = refl
 
   on : (c d : ℕ) → (eqb c a && eqb d b) ≡ (eqb a c && eqb b d)
-  on c d = λ i. eqb_sym c a i && eqb_sym d b i
+  on c d = λ i. nat_eq_equiv.symm c a i && nat_eq_equiv.symm d b i
 
   -- a letter of a way
   abbrev of_way : ℕ → ℕ → ℕ → Parcel → Option Letter
@@ -191,15 +189,6 @@ module _ (a b : ℕ) where
   received_begins (At o k n) es = inl (refl, refl)
   received_begins (Ref r d) es = inl (refl, refl)
   received_begins (Busy h) es = inl (refl, refl)
-
--- a list whose elements another has at the same places is its front
-front : {X : Type 0} (xs ys : List X) → ((k : ℕ) (z : X) → slice_get xs k ≡ Some z → slice_get ys k ≡ Some z)
-    → xs ≡ take (length xs) ys
-front [] ys all = refl
-front (x ∷ xs) [] all = let e = all zero x refl in absurd (cc e)
-front {X} (x ∷ xs) (y ∷ ys) all =
-    let same : y ≡ x = (let e = all zero x refl in cc e) in
-    let rest = front xs ys (λ k z is. all (suc k) z is) in λ i. sym same i ∷ rest i
 
 module _ {H : Type 0} (stands : List ℕ → Setting → List Noted → H → Type 0) (l : Layout) (v : SeatView)
     (homes : List (Option H)) (words : List ℕ) (closed : IsClosed stands l v homes words)
@@ -281,7 +270,7 @@ module _ {H : Type 0} (stands : List ℕ → Setting → List Noted → H → Ty
       → MailHolds (Mail a b) (notes_of q.notes) (notes_of p.notes)
   mail_holds a b i j q p lt at there own = record {
     numbered = posts_numbered a b i q at;
-    in_order = front (received_list a b p.notes) (sent_list a b q.notes) (λ k z is.
+    in_order = front-from-places (received_list a b p.notes) (sent_list a b q.notes) (λ k z is.
         let m = nth a b letter_received (received_list a b) refl (received_begins a b) p.notes k z is in
         let x : Letter = letter a b letter_received (received_list a b) refl z in
         let n = (turn_of j p there).received m.0 m.1 m.2 x m.3 m.4 in let c = m.5 in

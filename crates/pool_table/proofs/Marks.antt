@@ -9,6 +9,7 @@ use lib.ListN.{get_elem?}
 use Rattle.atomic_table.specs.Table.{State, Me, step, keeps, Allows}
 use Rattle.atomic_table.proofs.Lists.{at_map}
 use Rattle.step_law.proofs.Changes.{each_at}
+use Rattle.step_law.proofs.LowestBit.{or_odd}
 use Rattle.pool_law.specs.declared.note.Held.{Held}
 use Rattle.pool_law.specs.declared.note.Noted.{Noted}
 use Rattle.pool_law.specs.declared.note.Object.{Object}
@@ -39,7 +40,7 @@ use Rattle.pool_table.specs.Steps.{IsFree}
 use Rattle.pool_table.specs.Steps.{marks_claims}
 use Rattle.pool_table.proofs.Objects.{marked_kept}
 use Rattle.pool_table.proofs.Tables.{changes, alone_among}
-use Rattle.pool_table.proofs.Entries.{unmarked_below, not_idle, outside_object_view, same_numbered, entry_view, spent_entry, entry_elsewhere, entry_here, or_odd}
+use Rattle.pool_table.proofs.Entries.{unmarked_below, not_idle, outside_object_view, same_numbered, entry_view, spent_entry, entry_elsewhere, entry_here}
 use Rattle.pool_table.proofs.Claimed.{was_held, half, finds_held, gets_in, parity}
 
 module _ {H : Type 0} (stands : List ℕ → Setting → List Noted → H → Type 0) (l : Layout) where

@@ -6,8 +6,9 @@ use Rattle.pool_law.specs.declared.id.RegionId.{RegionId}
 use Rattle.pool_law.specs.declared.note.Did.{Did}
 use Rattle.pool_law.specs.declared.note.Did.TheVariants.{Take, Give}
 use Rattle.pool_law.specs.Same.{same_taking}
+use Rattle.pool_law.proofs.PatternLemmas.{same_taking-refl}
 use Rattle.history_laws.specs.NoteCounts.{is_taking, uses_in}
-use Rattle.history_laws.proofs.Names.{same_taking-both, same_taking-refl}
+use Rattle.history_laws.proofs.Names.{same_taking-both}
 use Rattle.history_laws.proofs.ArenaTakings.{of_taking}
 use Rattle.history_laws.proofs.Regions.{OfCache}
 use Rattle.pool_table.specs.declared.views.Entry.{Entry}

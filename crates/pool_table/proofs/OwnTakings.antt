@@ -21,10 +21,11 @@ use Rattle.pool_law.specs.Homes.{IsObjectOf}
 use Rattle.pool_law.specs.Same.{same_taking}
 use Rattle.pool_law.specs.Caches.{Cache as CacheState}
 use Rattle.pool_law.specs.NotedHistories.{MayNote}
+use Rattle.pool_law.proofs.SameLemmas.{and-first, and-second}
 use Rattle.history_laws.specs.Histories.{IsCacheAfter}
 use Rattle.history_laws.specs.Standing.{IsOfClass}
 use Rattle.history_laws.specs.NoteCounts.{is_taking, uses_in, has_number, arena_out, arena_in}
-use Rattle.history_laws.proofs.Names.{and-first, and-second, same_taking-is}
+use Rattle.history_laws.proofs.Names.{same_taking-is}
 use Rattle.history_laws.proofs.ArenaTakings.{of_taking}
 use Rattle.history_laws.proofs.Regions.{OfCache, cache_own}
 use Rattle.pool_table.specs.declared.views.Entry.{Entry}

@@ -14,8 +14,8 @@ use Rattle.pool_law.specs.declared.note.Object.TheVariants.{Mail}
 use Rattle.pool_law.specs.Kinds.{passing}
 use Rattle.pool_law.specs.NotedHistories.{MayNote}
 use Rattle.pool_law.specs.Same.{same_parcel}
+use Rattle.pool_law.proofs.SameLemmas.{and-first, and-second, same_parcel-is, same_parcel-refl}
 use Rattle.step_law.specs.Settings.{Setting}
-use Rattle.history_laws.proofs.Names.{and-first, and-second, same_parcel-is, same_parcel-refl}
 use Rattle.pool_table.specs.declared.views.Entry.{Entry}
 use Rattle.pool_table.specs.declared.views.Entry.TheVariants.{At, Ref, Busy}
 use Rattle.pool_table.specs.declared.views.Letter.{Letter}

@@ -15,9 +15,9 @@ use Rattle.pool_law.specs.declared.note.Noted.{Noted}
 use Rattle.pool_law.specs.declared.note.Object.{Object}
 use Rattle.pool_law.specs.declared.note.Object.TheVariants.{Mail}
 use Rattle.pool_law.specs.Homes.{IsObjectOf}
+use Rattle.pool_law.proofs.SameLemmas.{and-first, and-second}
 use Rattle.history_laws.specs.Standing.{IsMailed}
 use Rattle.history_laws.specs.NoteCounts.{is_root, view_weight, did_home, did_birth, did_end, did_post}
-use Rattle.history_laws.proofs.Names.{and-first, and-second}
 use Rattle.pool_table.specs.declared.views.Entry.TheVariants.{At}
 use Rattle.pool_table.specs.declared.views.Layout.{Layout}
 use Rattle.pool_table.specs.declared.views.SeatView.{SeatView}

@@ -22,7 +22,6 @@ use Rattle.pool_law.specs.Roots.{RootPlace}
 use Rattle.history_laws.specs.Histories.{IsHistory, IsArenaAfter}
 use Rattle.history_laws.specs.Standing.{IsRegioned}
 use Rattle.history_laws.specs.NoteCounts.{is_taking, has_number, weight_or, arena_out, arena_in, cache_out, cache_in, place_out, place_in}
-use Rattle.history_laws.proofs.Names.{same_taking-refl}
 use Rattle.history_laws.proofs.ArenaTakings.{arena_laws, at_most}
 use Rattle.history_laws.proofs.Regions.{arena_next, cache_next, place_next}
 use Rattle.history_laws.proofs.TakingMoves.{regioned}
@@ -33,6 +32,7 @@ use Rattle.pool_table.specs.declared.views.Layout.{Layout}
 use Rattle.pool_table.specs.declared.views.Part.{Part}
 use Rattle.pool_table.specs.declared.views.SeatView.{SeatView}
 use Rattle.pool_law.specs.Kinds.{passing}
+use Rattle.pool_law.proofs.PatternLemmas.{same_taking-refl}
 use Rattle.pool_table.specs.Views.{parts_of, is_turn, took_turn, spent}
 use Rattle.pool_table.specs.Counts.{weigh}
 use Rattle.pool_table.specs.Hands.{from_arena, to_place, HasTaking, HasRegion, IsLaidDown}

@@ -16,8 +16,9 @@ use Rattle.pool_law.specs.declared.note.Object.{Object}
 use Rattle.pool_law.specs.declared.note.Object.TheVariants.{Root}
 use Rattle.pool_law.specs.Homes.{home_of}
 use Rattle.pool_law.specs.Same.{same_root}
+use Rattle.pool_law.proofs.PatternLemmas.{same_root-refl}
 use Rattle.history_laws.specs.NoteCounts.{is_root, view_weight, view_of_root, did_birth, did_birth_of, did_birth_as, did_end, did_fetch, did_post, did_fetch_of, did_post_of, did_end_of}
-use Rattle.history_laws.proofs.Names.{same_root-or, same_root-refl}
+use Rattle.history_laws.proofs.Names.{same_root-or}
 use Rattle.history_laws.proofs.Roots.{of_birth}
 use Rattle.pool_table.specs.declared.views.Entry.{Entry}
 use Rattle.pool_table.specs.declared.views.Entry.TheVariants.{At, Ref, Busy}

@@ -40,7 +40,7 @@ entries_take : (m : ℕ) (made : List Made) (x : Made) → is_lane m x.lane ≡ 
     → entries_by m (made ++ x ∷ []) ≡ entries_by m made ++ x.entry ∷ []
 entries_take m made x e = entries_push m made x ∙ ap (λ (b : Bool). entries_by m made ++ cond b (x.entry ∷ []) []) e
 
-is_its : (m : ℕ) (l : Option ℕ) → l ≡ Some m → is_lane m l ≡ true
+pub is_its : (m : ℕ) (l : Option ℕ) → l ≡ Some m → is_lane m l ≡ true
 is_its m l e = subst (λ (x : Option ℕ). is_lane m x ≡ true) (sym e) (eq-eqb m m refl)
 
 apart_from : (m : ℕ) (l r : Option ℕ) → (l ≡ Some m → is_lane m r ≡ false) → r ≡ Some m → is_lane m l ≡ false

@@ -121,12 +121,6 @@ skip (x ∷ xs) ys k =
     let n : ℕ = length xs in let e : suc n + k ≡ suc (n + k) = omega arith in
     ap (get_elem? (x ∷ (xs ++ ys))) e ∙ skip xs ys k
 
--- before the last element
-pub at_left : {A : Type 0} (xs : List A) (x : A) (k : ℕ) → k < length xs → get_elem? (xs ++ x ∷ []) k ≡ get_elem? xs k
-at_left [] x k lt = absurd (omega (arith, lt))
-at_left (y ∷ ys) x zero lt = refl
-at_left (y ∷ ys) x (suc k) lt = at_left ys x k (omega (arith, lt))
-
 in_gap : {H : Type 0} (n k : ℕ) → k < n → get_elem? (replicate {A = Option H} n None) k ≡ some None
 in_gap zero k lt = absurd (omega (arith, lt))
 in_gap (suc n) zero lt = refl

@@ -1,6 +1,6 @@
 -- A root whose birth none noted is named by none.
 use Rattle.step_law.specs.Settings.{Setting}
-use Rattle.std.proofs.Common.{◌≡◌, ℕ, ◌+◌, ◌<◌, ◌≤◌, Bool, true, false, cond, eqb, List, [], ◌∷◌, replicate, sym, refl, ap, ◌∙◌, inr, arith, eq-eqb, Some, None}
+use Rattle.std.proofs.Common.{◌≡◌, ℕ, ◌+◌, ◌<◌, ◌≤◌, Bool, true, false, cond, eqb, List, [], ◌∷◌, replicate, sym, refl, ap, ◌∙◌, inr, arith, Some, None}
 use Rattle.std.specs.Prelude.{◌&&◌, Option, sum_by}
 use Rattle.std.proofs.lemmas.List.Sums.{sum_by-cons, sum_by-le-sum_by}
 use mathlib.Core.Logic.{dite}
@@ -11,7 +11,6 @@ use Rattle.atomic_table.specs.Table.{State}
 use Rattle.step_law.proofs.Changes.{each_from, sum_at, sum_none}
 use Rattle.pool_law.specs.declared.run.Shape.{Shape}
 use Rattle.pool_law.specs.declared.id.RootId.{RootId}
-use Rattle.pool_law.specs.declared.id.RegionId.{RegionId}
 use Rattle.pool_law.specs.declared.note.Did.{Did}
 use Rattle.pool_law.specs.declared.note.Did.TheVariants.{Post, Fetch, Birth, End}
 use Rattle.pool_law.specs.declared.note.Noted.{Noted}
@@ -23,7 +22,7 @@ use Rattle.pool_law.specs.Kinds.{beside}
 use Rattle.pool_law.specs.Roots.{RootPlace, Present, new_place, born}
 use Rattle.history_laws.specs.Histories.{IsHistory, IsPlaceAfter}
 use Rattle.history_laws.specs.NoteCounts.{one_if_so, is_root, did_birth_of, did_birth_as, did_end_of, did_post_of, did_fetch_of}
-use Rattle.history_laws.proofs.Roots.{place_born, of_birth}
+use Rattle.history_laws.proofs.Roots.{place_born, of_birth, its_birth}
 use Rattle.history_laws.proofs.Runs.{Runs}
 use Rattle.history_laws.proofs.Told.{place_there}
 use Rattle.pool_table.specs.declared.views.Entry.{Entry}
@@ -63,12 +62,6 @@ pub as_of_entry : (p g c : ℕ) (e : Entry) → at_birth_as p g c e ≤ at_birth
 as_of_entry p g c (At o k n) = as_of p g c n.did
 as_of_entry p g c (Ref q d) = omega arith
 as_of_entry p g c (Busy b) = omega arith
-
--- its birth
-itself : (r : RootId) (z : RegionId) → did_birth_as r.place r.generation r.capacity (Birth r z) ≡ 1
-itself r z = λ i. cond {A = ℕ}
-    ((eq-eqb r.place r.place refl i && eq-eqb r.generation r.generation refl i)
-    && eq-eqb r.capacity r.capacity refl i) 1 0
 
 -- what names the root beside its birth and what is made on it
 abbrev named : RootId → Entry → ℕ
@@ -134,7 +127,7 @@ module _ (p : ℕ) (r : RootId) where
           let one : did_birth_as r.place r.generation r.capacity d ≡ 1 =
           ap (did_birth_as r.place r.generation r.capacity) b.did
           ∙ ap (λ (q : RootId). did_birth_as r.place r.generation r.capacity (Birth q b.region)) this
-          ∙ itself r b.region in
+          ∙ its_birth r b.region in
           absurd (omega (arith, one, none))
       still d (Stayed s) none w is same =
           away s.old s.was (sym s.same ∙ ap (λ (z : Present). z.root) (one_present {o = (t.0).present} s.new w s.is is)

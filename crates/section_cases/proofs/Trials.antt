@@ -1,6 +1,6 @@
 -- Lemmas for the tests: the two seats of a new table, and what a first note of a bin may be.
-use Rattle.std.proofs.Common.{◌≡◌, ℕ, zero, suc, ◌<◌, get_or, List, [], ◌∷◌, ◌++◌, length, sym, ap, ◌∙◌, subst, refl, arith, length-append}
-use Rattle.std.specs.Prelude.{All, HoldsAt, slice_get, Option, Some, None, IsTrue, is_some}
+use Rattle.std.proofs.Common.{◌≡◌, ℕ, zero, suc, ◌<◌, get_or, List, [], ◌∷◌, ◌++◌, length, sym, ◌∙◌, subst, refl, arith}
+use Rattle.std.specs.Prelude.{All, slice_get, Option, Some, None, IsTrue, is_some}
 use Rattle.pool_law.specs.declared.run.Shape.{Shape}
 use Rattle.pool_law.specs.declared.note.Noted.{Noted}
 use Rattle.pool_law.specs.declared.note.Did.TheVariants.{Handle}
@@ -26,22 +26,6 @@ each_stands {H} s homes P many all o fits =
     there [] i lt = absurd (omega (arith, lt))
     there (x ∷ xs) zero lt = (x, refl, λ d. refl)
     there (x ∷ xs) (suc i) lt = there xs i (omega (arith, lt))
-
--- the last two of two elements
-pub two_last : {X : Type 0} (P : ℕ → X → Type 0) (items rest less : List X) (a b : X) → length items ≡ 2
-    → items ≡ rest ++ b ∷ [] → rest ≡ less ++ a ∷ [] →
-    ((k : ℕ) → k < 2 → HoldsAt (P k) items k) → P 0 a × P 1 b
-two_last {X} P items rest less a b many e f each = go less (e ∙ ap (λ (r : List X). r ++ b ∷ []) f)
-  where
-    go : (less : List X) → items ≡ (less ++ a ∷ []) ++ b ∷ [] → P 0 a × P 1 b
-    go [] is =
-        let all : (k : ℕ) → k < 2 → HoldsAt (P k) (a ∷ b ∷ []) k =
-        subst (λ (l : List X). (k : ℕ) → k < 2 → HoldsAt (P k) l k) is each in
-        (all 0 (omega arith) a, all 1 (omega arith) a)
-    go (x ∷ xs) is =
-        let n = ap (λ (l : List X). length l) is in let u = length-append ((x ∷ xs) ++ a ∷ []) (b ∷ []) in let v =
-        length-append (x ∷ xs) (a ∷ []) in
-        absurd (omega (arith, n, u, v, many))
 
 pub none_of : {X : Type 0} (xs : List X) → length xs ≡ 0 → xs ≡ []
 none_of [] e = refl

@@ -5,8 +5,8 @@ use mathlib.Core.Logic.{dite}
 use native.Mathlib.Decide.{ℕ_discrete}
 use lib.ListN.{get_elem?}
 use Rattle.atomic_table.proofs.Lists.{at_last}
-use Rattle.board_table.proofs.Closings.{at_left}
 use Rattle.board_table.proofs.closing.take_homes.Goals as goal
+use Rattle.step_law.proofs.Changes.{at_left}
 
 pub loop-k-preserved : goal.loop-k-preserved
 loop-k-preserved g c =

@@ -7,8 +7,9 @@ use lib.ListN.{get_elem?}
 use Rattle.atomic_table.proofs.Lists.{at_last}
 use Rattle.pool_law.specs.Homes.{objects_of}
 use Rattle.pool_table.specs.Slots.{slot_at, slots_of}
-use Rattle.pool_table.proofs.Slots.{first_slot, slots_rise, slots_rise_on, at_left}
+use Rattle.pool_table.proofs.Slots.{first_slot, slots_rise, slots_rise_on}
 use Rattle.pool_table.proofs.closing.take_homes.Goals as goal
+use Rattle.step_law.proofs.Changes.{at_left}
 
 pub loop-i-init : goal.loop-i-init
 loop-i-init g c = let s = c.args.shape.now in record {

@@ -1,8 +1,9 @@
 use Rattle.pool_table.specs.Opened.{IsFirstSeat}
+use Rattle.pool_table.proofs.Lists.{two_last}
 use Rattle.section_cases.specs.declared.diary.TheConstants.{LAYOUT}
 use Rattle.std.proofs.Common.{[], ◌≡◌}
 use Rattle.step_law.specs.Settings.{no_setting}
-use Rattle.section_cases.proofs.Trials.{each_stands, two_last}
+use Rattle.section_cases.proofs.Trials.{each_stands}
 use Rattle.section_cases.proofs.diary.open_table.Goals as goal
 
 pub new-requires-clause-stand : goal.new-requires-clause-stand
