@@ -10,8 +10,8 @@ use Rattle.pool_law.specs.declared.note.Object.{Object}
 use Rattle.pool_law.specs.Limits.{geometry_of}
 use Rattle.pool_law.specs.Naming.{noted_by}
 use Rattle.pool_law.specs.Places.{IsInPlace}
+use Rattle.pool_law.proofs.PatternLemmas.{same_taking-refl}
 use Rattle.history_laws.specs.NoteCounts.{one_if_so, is_taking, uses_in}
-use Rattle.history_laws.proofs.Names.{same_taking-refl}
 use Rattle.pool_table.specs.declared.views.Entry.{Entry}
 use Rattle.pool_table.specs.declared.views.Entry.TheVariants.{At}
 use Rattle.pool_table.specs.declared.views.SeatView.{SeatView}

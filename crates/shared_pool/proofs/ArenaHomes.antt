@@ -14,11 +14,11 @@ use Rattle.pool_law.specs.NotedHistories.{noted_dids, IsRightAt, IsRightWatch}
 use Rattle.pool_law.specs.Naming.{noted_by}
 use Rattle.history_laws.specs.Histories.{IsHistory, IsArenaAfter}
 use Rattle.history_laws.specs.Measures.{measures_of}
-use Rattle.history_laws.proofs.Names.{same_taking-refl}
 use Rattle.history_laws.proofs.Runs.{right_push}
 use Rattle.ground.specs.Ground.{Segment}
 use Rattle.size_classes.specs.Sizes.{IsPage, of_pages}
 use Rattle.pool_law.specs.Places.{IsInPlace}
+use Rattle.pool_law.proofs.PatternLemmas.{same_taking-refl}
 use Rattle.std.proofs.lemmas.List.{length-map}
 use Rattle.arena_laws.specs.Slots.{ArenaHolds}
 use Rattle.arena_laws.specs.Takings.{TakenInOrder}

@@ -20,9 +20,9 @@ use Rattle.pool_law.specs.NotedHistories.{noted_dids}
 use Rattle.pool_law.specs.Places.{IsInPlace}
 use Rattle.pool_law.proofs.HistoryLemmas.{after-noted}
 use Rattle.pool_law.proofs.SameLemmas.{and-second}
+use Rattle.pool_law.proofs.PatternLemmas.{same_taking-refl}
 use Rattle.history_laws.specs.Histories.{IsHistory}
 use Rattle.history_laws.specs.NoteCounts.{is_taking, uses_in, arena_out, arena_in, cache_out, cache_in, place_out, place_in, weight_or, ended_region}
-use Rattle.history_laws.proofs.Names.{same_taking-refl}
 use Rattle.history_laws.proofs.Regions.{OfCache, cache_own}
 use Rattle.history_laws.proofs.CacheSteps.{IsCacheStep}
 use Rattle.history_laws.proofs.Told.{cache_there, next_cache}

@@ -1,10 +1,10 @@
 -- A root whose birth was noted was born, where its place is in no hands: births of all generations are as many
 -- as steps.
-use Rattle.std.proofs.Common.{◌≡◌, ℕ, zero, suc, ◌+◌, ◌<◌, ◌≤◌, List, [], ◌∷◌, Bool, true, false, cond, eqb, refl, ap, ◌∙◌, subst, arith, ne_eqb}
+use Rattle.std.proofs.Common.{◌≡◌, ℕ, zero, suc, ◌+◌, ◌<◌, ◌≤◌, List, [], ◌∷◌, Bool, true, false, cond, refl, subst, arith}
 use Rattle.std.specs.Prelude.{◌==◌, ◌&&◌, sum_by}
 use Rattle.std.proofs.lemmas.List.Sums.{sum_by-cons}
 use mathlib.Core.Logic.{dite}
-use native.Mathlib.Decide.{ℕ_discrete, dec_le}
+use native.Mathlib.Decide.{ℕ_discrete}
 use Rattle.pool_law.specs.declared.note.Did.{Did}
 use Rattle.pool_law.specs.declared.note.Did.TheVariants.{Birth}
 use Rattle.history_laws.specs.NoteCounts.{did_birth, did_birth_of}
@@ -16,7 +16,7 @@ use Rattle.pool_table.specs.Views.{parts_of}
 use Rattle.pool_table.specs.Counts.{on_root, on_place, ref_born, weigh}
 use Rattle.pool_table.specs.Hands.{at_birth, at_birth_of}
 use Rattle.pool_table.specs.Holders.{sum_to}
-use Rattle.pool_table.proofs.Partition.{sum_to_same, sum_to_add, sum_to_none, sum_to_one, sum_to_le}
+use Rattle.pool_table.proofs.Partition.{sum_to_same, sum_to_add, sum_to_none, sum_to_le, picked, picked_most}
 
 -- ---- Sums over all generations.
 
@@ -25,21 +25,6 @@ sum_below zero f g i lt le less = absurd (omega (arith, lt))
 sum_below (suc n) f g i lt le less = dite (ℕ_discrete i n)
     (λ e. let a = sum_to_le n f g (λ k _. le k) in let b = subst (λ (k : ℕ). f k < g k) e less in omega (arith, a, b))
     (λ ne. let a = sum_below n f g i (omega (arith, lt, ne)) le less in let b = le n in omega (arith, a, b))
-
--- what each number below n picks at j
-picked : (n j x : ℕ) → j < n → sum_to n (λ i. cond {A = ℕ} (eqb j i) x 0) ≡ x
-picked n j x lt =
-    sum_to_same n (λ i. cond {A = ℕ} (eqb j i) x 0) (λ i. cond {A = ℕ} (eqb (0 + j) (0 + i)) x 0)
-    (λ i. let a : j ≡ 0 + j = omega arith in let b : i
-    ≡ 0 + i = omega arith in λ k. cond {A = ℕ} (eqb (a k) (b k)) x 0)
-    ∙ sum_to_one n j x 0 lt
-
-picked_most : (n j x : ℕ) → sum_to n (λ i. cond {A = ℕ} (eqb j i) x 0) ≤ x
-picked_most n j x = dite (dec_le (suc j) n)
-    (λ le. let a = picked n j x (omega (arith, le)) in omega (arith, a))
-    (λ gt. let a = sum_to_none n (λ i. cond {A = ℕ} (eqb j i) x 0)
-    (λ i lt. ap (λ (b : Bool). cond {A = ℕ} b x 0) (ne_eqb j i (λ e. gt (omega (arith, e, lt))))) in
-    omega (arith, a))
 
 module _ {X : Type 0} (f : ℕ → X → ℕ) (F : X → ℕ) where
   -- sums of sums, where the numbers go above what each has

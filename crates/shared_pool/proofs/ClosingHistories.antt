@@ -18,9 +18,10 @@ use Rattle.pool_law.proofs.PatternLemmas.{same_object-refl}
 use Rattle.pool_table.specs.declared.views.Entry.{Entry}
 use Rattle.pool_table.specs.declared.views.Entry.TheVariants.{At, Ref, Busy}
 use Rattle.pool_table.specs.declared.views.Part.{Part}
-use Rattle.pool_table.specs.Views.{is_about, is_lane, noted_of, object_part}
+use Rattle.pool_table.specs.Views.{is_about, noted_of, object_part}
 use Rattle.pool_table.specs.Sound.{Before, Tells, IsKnown, IsTold, Stands}
 use Rattle.pool_table.proofs.Known.{one_known}
+use Rattle.pool_table.proofs.Sequence.{is_its}
 use Rattle.shared_pool.specs.Closing.{note_of}
 use Rattle.shared_pool.proofs.ClosingNumbers.{Tagged, dids_in, lawful, Rising, AllSit, AllLaned, is_numbered as are_numbered}
 
@@ -177,9 +178,6 @@ told_least o h limit lane (At p k n) t = let a : 0 < k = t.0 in let g : 1 ≤ k 
 told_least o h limit lane (Ref r d) t = tt
 told_least o h limit lane (Busy b) t = tt
 
-lane_is : (i : ℕ) (l : Option ℕ) → l ≡ Some i → is_lane i l ≡ true
-lane_is i l e = subst (λ (x : Option ℕ). is_lane i x ≡ true) (sym e) (eq-eqb i i refl)
-
 sit : (o : Object) (h : List Noted) (limit i : ℕ) (es : List Entry) → All (Tells o h limit (Some i)) es
     → AllSit i 1 h (tagged es)
 sit o h limit i [] all = tt
@@ -187,7 +185,7 @@ sit o h limit i (At p k n ∷ es) all =
     let t = All-head (Tells o h limit (Some i)) (At p k n) es all in
     let a : 0 < k = t.0 in (
       (k - 1, (let g : k ≡ 1 + (k - 1) = omega (arith, a) in g), t.1),
-      lane_is i n.lane t.2,
+      is_its i n.lane t.2,
       sit o h limit i es
           (All-tail (Tells o h limit (Some i)) (At p k n) es all),
     )

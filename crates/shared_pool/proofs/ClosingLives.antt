@@ -17,8 +17,8 @@ use Rattle.pool_law.specs.declared.note.RefDid.TheVariants as Step
 use Rattle.pool_law.specs.Homes.{home_of, objects_of, IsObjectOf}
 use Rattle.pool_law.specs.Same.{same_root}
 use Rattle.pool_law.specs.Counts.{TotalHolds, count_over, total_of, is_retain, is_release, is_birth, ends_root}
+use Rattle.pool_law.proofs.SameLemmas.{and-first, and-second, same_root-is}
 use Rattle.history_laws.specs.NoteCounts.{is_root, did_birth, did_birth_as, did_end}
-use Rattle.history_laws.proofs.Names.{and-first, and-second, same_root-is}
 use Rattle.pool_table.specs.declared.views.Entry.{Entry}
 use Rattle.pool_table.specs.declared.views.Entry.TheVariants.{At, Ref, Busy}
 use Rattle.pool_table.specs.declared.views.Layout.{Layout}

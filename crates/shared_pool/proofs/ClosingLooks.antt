@@ -23,10 +23,11 @@ use Rattle.pool_table.specs.Looks.{LooksRight as AreRight, retains_in}
 use Rattle.pool_table.specs.Closed.{IsClosed}
 use Rattle.pool_table.proofs.Ledgers.{sum_add}
 use Rattle.pool_table.proofs.Lists.{at_cut, none_cut}
+use Rattle.pool_table.proofs.RootEntries.{Alone}
 use Rattle.shared_pool.specs.Looks.{LookRight, LooksRight}
 use Rattle.shared_pool.specs.Closing.{note_of, entry_of, entries_in}
 use Rattle.shared_pool.proofs.ClosingWhole.{at, there_or}
-use Rattle.shared_pool.proofs.ClosingSums.{law, note_is, count_in-is, sums_same, weigh_same, Alone, retains_alike, releases_alike, gains_alike, losses_alike}
+use Rattle.shared_pool.proofs.ClosingSums.{law, note_is, count_in-is, sums_same, weigh_same, retains_alike, releases_alike, gains_alike, losses_alike}
 
 -- ---- Looks.
 

@@ -1,13 +1,12 @@
 -- At the close each mail holds between the logs of its two lanes.
 use Rattle.step_law.specs.Settings.{Setting}
-use Rattle.std.proofs.Common.{◌≡◌, ℕ, zero, suc, ◌+◌, ◌<◌, ◌≤◌, List, [], ◌∷◌, length, cond, sym, refl, ap, ◌∙◌, subst, arith, ⊎_elim, eq-eqb, ne_eqb, Bool, Some}
+use Rattle.step_law.proofs.Changes.{element_at}
+use Rattle.std.proofs.Common.{◌≡◌, ℕ, suc, ◌+◌, ◌<◌, ◌≤◌, List, [], ◌∷◌, length, cond, sym, refl, ap, ◌∙◌, subst, arith, ⊎_elim, eq-eqb, ne_eqb, Bool, Some}
 use Rattle.std.specs.Prelude.{◌==◌, Option, count_by, slice_get, take}
 use Rattle.std.proofs.lemmas.Option.{slice_get_within}
 use Rattle.std.proofs.lemmas.List.Sums.{sum_by-cons}
 use mathlib.Core.Logic.{dite}
 use native.Mathlib.Decide.{ℕ_discrete}
-use mathlib.Core.Option.{some}
-use lib.ListN.{get_elem?}
 use Rattle.pool_law.specs.declared.id.Parcel.{Parcel}
 use Rattle.pool_law.specs.declared.note.Note.{Note}
 use Rattle.pool_law.specs.declared.note.Noted.{Noted}
@@ -54,12 +53,6 @@ lanes_all l v lanes m lt =
     let once = once_from (parts_of v) 0 m (λ k p is. lanes.numbers k p is ∙ ap (λ (x : ℕ). Some x) (omega arith)) in
     let wide = lanes.many in once.0 (omega arith) (omega (arith, lt, wide))
 
--- what stands at a place of a list
-at_place : {X : Type 0} (xs : List X) (i : ℕ) (x : X) → slice_get xs i ≡ Some x → get_elem? xs i ≡ some x
-at_place [] i x e = absurd (cc e)
-at_place (y ∷ xs) zero x e = let same : y ≡ x = cc e in ap some same
-at_place (y ∷ xs) (suc i) x e = at_place xs i x e
-
 -- the table's list of notes is the law's
 notes_same : (es : List Entry) → notes_of es ≡ notes_in es
 notes_same [] = refl
@@ -100,7 +93,7 @@ module _ {H : Type 0} (stands : List ℕ → Setting → List Noted → H → Ty
   numbered : (a b : ℕ) → AreNumbered a b (log a)
   numbered a b = ⊎_elim
       (λ (q : (q : Part) × (slice_get (parts_of v) a ≡ Some q)). subst (AreNumbered a b) (log_is a q.0 q.1)
-      (posts_numbered stands l v homes words closed all_lanes a b a q.0 (at_place (parts_of v) a q.0 q.1)))
+      (posts_numbered stands l v homes words closed all_lanes a b a q.0 (element_at (parts_of v) a q.0 q.1)))
       (λ (past : length (parts_of v) ≤ a). subst (AreNumbered a b) (sym (log_past (parts_of v) a past))
       (λ k post is. absurd (cc is)))
       (there_or (parts_of v) a)
@@ -110,7 +103,7 @@ module _ {H : Type 0} (stands : List ℕ → Setting → List Noted → H → Ty
   none_beyond a b past = ⊎_elim
       (λ (p : (p : Part) × (slice_get (parts_of v) b ≡ Some p)).
       subst (λ (ns : List Note). fetched (Mail a b) ns ≡ []) (log_is b p.0 p.1)
-      (none_from_beyond stands l v homes words closed all_lanes a b b p.0 (at_place (parts_of v) b p.0 p.1)
+      (none_from_beyond stands l v homes words closed all_lanes a b b p.0 (element_at (parts_of v) b p.0 p.1)
       (let wide = lanes.many in let n : ℕ = length (parts_of v) in let past' : n ≤ a = past in
       let wide' : n ≡ l.shape.lanes = wide in omega (arith, past', wide'))))
       (λ (past : length (parts_of v) ≤ b). ap (λ (ns : List Note). fetched (Mail a b) ns)
@@ -124,8 +117,8 @@ module _ {H : Type 0} (stands : List ℕ → Setting → List Noted → H → Ty
       let lt : a < l.shape.lanes = subst (λ (n : ℕ). a < n) lanes.many (slice_get_within (parts_of v) a q.0 q.1) in
       let sent = log_is a q.0 q.1 in let received = log_is b p.0 p.1 in
       subst (λ (x : List Note × List Note). MailHolds (Mail a b) x.0 x.1) (λ i. (sent i, received i))
-      (mail_holds stands l v homes words closed all_lanes a b a b q.0 p.0 lt (at_place (parts_of v) a q.0 q.1)
-      (at_place (parts_of v) b p.0 p.1) (lanes.numbers a q.0 q.1)))
+      (mail_holds stands l v homes words closed all_lanes a b a b q.0 p.0 lt (element_at (parts_of v) a q.0 q.1)
+      (element_at (parts_of v) b p.0 p.1) (lanes.numbers a q.0 q.1)))
       (λ (past : length (parts_of v) ≤ b). none_fetched a b (log a) (log b) (numbered a b)
       (ap (λ (ns : List Note). fetched (Mail a b) ns) (log_past (parts_of v) b past)))
       (there_or (parts_of v) b))

@@ -10,7 +10,7 @@ use Rattle.pool_law.specs.declared.note.Note.{Note}
 use Rattle.pool_law.specs.declared.note.Noted.{Noted}
 use Rattle.pool_law.specs.Same.{same_root}
 use Rattle.pool_law.specs.Counts.{view_is_of, count_over, names_root, is_birth}
-use Rattle.history_laws.proofs.Names.{same_root-is}
+use Rattle.pool_law.proofs.SameLemmas.{same_root-is}
 use Rattle.pool_table.specs.declared.views.Entry.{Entry}
 use Rattle.pool_table.specs.declared.views.Entry.TheVariants.{At, Ref, Busy}
 use Rattle.pool_table.specs.declared.views.Layout.{Layout}

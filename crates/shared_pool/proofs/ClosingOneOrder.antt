@@ -1,6 +1,6 @@
 -- At the close all steps of all lanes stand in one order, in which each fits those before it.
 use Rattle.step_law.specs.Settings.{Setting}
-use Rattle.std.proofs.Common.{◌≡◌, ℕ, ◌+◌, ◌<◌, ◌≤◌, List, [], ◌∷◌, length, map, Bool, true, false, cond, sym, refl, ap, ◌∙◌, subst, arith, ⊎_elim, Some}
+use Rattle.std.proofs.Common.{◌≡◌, ℕ, ◌+◌, ◌<◌, ◌≤◌, List, [], ◌∷◌, length, map, Bool, cond, sym, refl, ap, ◌∙◌, subst, arith, ⊎_elim, Some}
 use Rattle.std.specs.Prelude.{◌==◌, Option, All, IsTrue, slice_get}
 use Rattle.std.proofs.lemmas.List.Elements.{All-head, All-weaker}
 use Rattle.pool_law.specs.declared.run.Shape.{Shape}
@@ -31,10 +31,11 @@ use Rattle.pool_table.specs.Sequence.{Made, weigh_made, entries_by, on_object, H
 use Rattle.pool_table.specs.Sound.{Stands}
 use Rattle.pool_table.specs.Closed.{IsClosed}
 use Rattle.pool_table.proofs.Lists.{at_cut, all_two}
-use Rattle.pool_table.proofs.Looks.{sum_adds}
+use Rattle.pool_table.proofs.Looks.{sum_adds, gain_is}
+use Rattle.pool_table.proofs.RootEntries.{Alone}
 use Rattle.shared_pool.specs.Closing.{AreLanes, note_of, logs_in}
 use Rattle.shared_pool.proofs.ClosingWhole.{at, there_or, log_at, log_past, stands_at}
-use Rattle.shared_pool.proofs.ClosingSums.{law, Alone, sums_same, nothing, retains_alike, borns_alike, ends_alike, releases_alike, same_cond}
+use Rattle.shared_pool.proofs.ClosingSums.{law, sums_same, nothing, retains_alike, borns_alike, ends_alike, releases_alike, same_cond}
 use Rattle.shared_pool.proofs.ClosingHistories.{same_about}
 use Rattle.shared_pool.proofs.ClosingPosts.{alike_at, finds_none, mail_fits}
 use Rattle.shared_pool.proofs.ClosingLooks.{names}
@@ -80,22 +81,6 @@ vacates_alike r (Ref q Retain) alone = nothing (is_root r.place r.generation q)
 vacates_alike r (Ref q Kept) alone = nothing (is_root r.place r.generation q)
 vacates_alike r (Ref q Ended) alone = nothing (is_root r.place r.generation q)
 vacates_alike r (Ref q (Look k)) alone = nothing (is_root r.place r.generation q)
-
--- a gain is a birth or a retain
-gain_is : (p g : ℕ) (e : Entry) → on_root ref_gain p g e ≡ on_root ref_born p g e + on_root ref_retain p g e
-gain_is p g (At o k n) = refl
-gain_is p g (Busy b) = refl
-gain_is p g (Ref r d) = by (is_root p g r) d
-  where
-    by : (b : Bool) (d : RefDid)
-        → cond {A = ℕ} b (ref_gain d) 0 ≡ cond {A = ℕ} b (ref_born d) 0 + cond {A = ℕ} b (ref_retain d) 0
-    by false d = refl
-    by true Born = refl
-    by true Retain = refl
-    by true Kept = refl
-    by true Ended = refl
-    by true Vacated = refl
-    by true (Look k) = refl
 
 -- ---- The steps before one.
 

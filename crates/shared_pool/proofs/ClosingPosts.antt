@@ -1,8 +1,7 @@
 -- Notes at mails as the law numbers them, by the weights of the table.
-use Rattle.std.proofs.Common.{◌≡◌, ℕ, ◌+◌, List, map, Bool, true, false, cond, sym, refl, ap, ◌∙◌, arith, eq-eqb, ne_eqb, Some, None}
+use Rattle.std.proofs.Common.{◌≡◌, ℕ, ◌+◌, List, map, Bool, true, false, cond, refl, ap, ◌∙◌, arith, Some, None}
 use Rattle.std.specs.Prelude.{◌==◌, ◌&&◌, ◌||◌, Option, IsTrue}
-use mathlib.Core.Logic.{dite}
-use native.Mathlib.Decide.{ℕ_discrete}
+use Rattle.std.proofs.lemmas.Cmp.{nat_eq_equiv}
 use Rattle.pool_law.specs.declared.id.Parcel.{Parcel}
 use Rattle.pool_law.specs.declared.run.Shape.{Shape}
 use Rattle.pool_law.specs.declared.note.Did.{Did}
@@ -30,13 +29,9 @@ alike_at o has did (At p k n) =
 alike_at o has did (Ref r d) = refl
 alike_at o has did (Busy b) = refl
 
-eqb_sym : (x y : ℕ) → (x == y) ≡ (y == x)
-eqb_sym x y = dite (ℕ_discrete x y) (λ e. eq-eqb x y e ∙ sym (eq-eqb y x (sym e)))
-    (λ ne. ne_eqb x y ne ∙ sym (ne_eqb y x (λ e. ne (sym e))))
-
 -- the same way, from the letter and from the mail
 same_mail : (a b c d : ℕ) → cond {A = ℕ} ((a == c) && (b == d)) 1 0 ≡ cond {A = ℕ} ((c == a) && (d == b)) 1 0
-same_mail a b c d = λ i. cond {A = ℕ} (eqb_sym a c i && eqb_sym b d i) 1 0
+same_mail a b c d = λ i. cond {A = ℕ} (nat_eq_equiv.symm a c i && nat_eq_equiv.symm b d i) 1 0
 
 none_so : (t : Bool) → cond {A = ℕ} (t && false) 1 0 ≡ 0
 none_so true = refl

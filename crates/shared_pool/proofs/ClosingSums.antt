@@ -14,14 +14,16 @@ use Rattle.pool_law.specs.declared.note.RefDid.TheVariants.{Born, Retain, Kept, 
 use Rattle.pool_law.specs.declared.note.Note.{Note}
 use Rattle.pool_law.specs.Same.{same_root}
 use Rattle.pool_law.specs.Counts.{view_is_of, note_gains, note_loses, count_in, count_over, is_retain, is_release, is_born, is_birth, ends_root, ref_gains, ref_loses}
+use Rattle.pool_law.proofs.SameLemmas.{same_root-is, and-first, and-second}
+use Rattle.pool_law.proofs.PatternLemmas.{same_root-refl}
 use Rattle.history_laws.specs.NoteCounts.{is_root, view_weight, did_fetch, did_post, did_birth_as}
-use Rattle.history_laws.proofs.Names.{same_root-is, same_root-refl, and-first, and-second}
 use Rattle.pool_table.specs.declared.views.Entry.{Entry}
 use Rattle.pool_table.specs.declared.views.Entry.TheVariants.{At, Ref, Busy}
 use Rattle.pool_table.specs.declared.views.Part.{Part}
 use Rattle.pool_table.specs.Counts.{on_root, at_gain, at_loss, weigh_in, ref_gain, ref_loss, ref_retain, ref_born, ref_ended}
-use Rattle.pool_table.specs.Births.{carried, root_named}
+use Rattle.pool_table.specs.Births.{carried}
 use Rattle.pool_table.specs.Hands.{at_birth_as}
+use Rattle.pool_table.proofs.RootEntries.{Alone}
 use Rattle.shared_pool.specs.Closing.{note_of, entry_of, entries_in}
 
 -- 1 for an entry whose note passes the test
@@ -82,10 +84,6 @@ pub tests_same : (a b : Bool) → (a ≡ true → b ≡ true) → (b ≡ true �
 tests_same true b f g = sym (f refl)
 tests_same false true f g = g refl
 tests_same false false f g = refl
-
--- each root of this place and generation that the entry names is this one
-abbrev pub Alone : RootId → Entry → Type 0
-Alone r e = (q : RootId) → root_named e ≡ Some q → q.place ≡ r.place → q.generation ≡ r.generation → q ≡ r
 
 pub root_test : (q r : RootId) → (q.place ≡ r.place → q.generation ≡ r.generation → q ≡ r)
     → same_root q r ≡ is_root r.place r.generation q

@@ -1,21 +1,19 @@
 -- The sentences on the totals of roots that were born.
 use Rattle.step_law.specs.Settings.{Setting}
-use Rattle.std.proofs.Common.{◌≡◌, ◌≢◌, ℕ, ◌+◌, ◌*◌, ◌<◌, ◌≤◌, List, [], ◌∷◌, Bool, true, false, cond, sym, refl, ◌∙◌, subst, arith, inl, inr, ⊎_elim}
-use Rattle.std.specs.Prelude.{◌==◌, ◌&&◌, Option, All, sum_by, slice_index}
+use Rattle.std.proofs.Common.{◌≡◌, ◌≢◌, ℕ, ◌+◌, ◌*◌, ◌<◌, ◌≤◌, List, [], ◌∷◌, Bool, sym, refl, ◌∙◌, subst, arith, inl, inr, ⊎_elim}
+use Rattle.std.specs.Prelude.{Option, All, sum_by, slice_index}
 use Rattle.std.proofs.lemmas.List.Elements.{All-weaker}
 use Rattle.std.proofs.lemmas.List.Sums.{sum_by-cons, sum_by-le-sum_by}
 use mathlib.Core.Logic.{dite}
 use native.Mathlib.Decide.{ℕ_discrete, dec_le}
 use Rattle.pool_law.specs.declared.id.RootId.{RootId}
-use Rattle.pool_law.specs.declared.note.Did.{Did}
-use Rattle.pool_law.specs.declared.note.Did.TheVariants.{Birth}
 use Rattle.pool_law.specs.declared.note.Note.{Note}
 use Rattle.pool_law.specs.declared.note.Noted.{Noted}
 use Rattle.pool_law.specs.declared.note.Object.TheVariants.{Root}
 use Rattle.pool_law.specs.declared.run.Shape.{Shape}
 use Rattle.pool_law.specs.Homes.{objects_of}
 use Rattle.pool_law.specs.Counts.{TotalHolds, count_over, is_retain, is_release, is_born, is_birth, ends_root}
-use Rattle.history_laws.specs.NoteCounts.{is_root, did_birth, did_birth_of, did_birth_as, did_end}
+use Rattle.history_laws.specs.NoteCounts.{did_birth, did_end}
 use Rattle.pool_table.specs.declared.views.Entry.{Entry}
 use Rattle.pool_table.specs.declared.views.Entry.TheVariants.{At, Ref, Busy}
 use Rattle.pool_table.specs.declared.views.Layout.{Layout}
@@ -28,42 +26,21 @@ use Rattle.pool_table.specs.Hands.{at_birth_of, at_birth_as, taken, put_down, In
 use Rattle.pool_table.specs.Sound.{IsKnown, Stands}
 use Rattle.pool_table.specs.Closed.{IsClosed}
 use Rattle.pool_table.proofs.Looks.{gains_are}
+use Rattle.pool_table.proofs.RootEntries.{Alone, as_birth}
+use Rattle.pool_table.proofs.Unborn.{as_of_entry}
 use Rattle.shared_pool.specs.Closing.{entries_in, HasNoPlace}
 use Rattle.shared_pool.proofs.ClosingWhole.{at}
-use Rattle.shared_pool.proofs.ClosingSums.{law, count_over-is, weigh_same, some_weighs, Alone, retains_alike, releases_alike, borns_alike, ends_alike, births_alike}
+use Rattle.shared_pool.proofs.ClosingSums.{law, count_over-is, weigh_same, some_weighs, retains_alike, releases_alike, borns_alike, ends_alike, births_alike}
 use Rattle.shared_pool.proofs.ClosingLooks.{alone}
 use Rattle.shared_pool.proofs.ClosingBirths.{noted_made}
 
 -- ---- A birth.
 
--- one with its capacity is one of its generation, and one at its place
-as_of : (p g c : ℕ) (e : Entry) → at_birth_as p g c e ≤ at_birth_of p g e
-as_of p g c (Ref r d) = omega arith
-as_of p g c (Busy b) = omega arith
-as_of p g c (At o k n) = by n.did
-  where
-    less : (a b : Bool) → cond {A = ℕ} (a && b) 1 0 ≤ cond {A = ℕ} a 1 0
-    less true true = omega arith
-    less true false = omega arith
-    less false b = omega arith
-
-    by : (d : Did) → did_birth_as p g c d ≤ did_birth_of p g d
-    by (Birth q x) = less (is_root p g q) (q.capacity == c)
-    by d = omega arith
-
-at_place : (p g c : ℕ) (d : Did) → did_birth p d ≡ 0 → did_birth_as p g c d ≡ 0
-at_place p g c (Birth q x) z = by (q.place == p) (q.generation == g) (q.capacity == c) z
-  where
-    by : (a b c : Bool) → cond {A = ℕ} a 1 0 ≡ 0 → cond {A = ℕ} ((a && b) && c) 1 0 ≡ 0
-    by true b c z = absurd (omega (arith, z))
-    by false b c z = refl
-at_place p g c d z = refl
-
 -- it stands at its place
 stands_there : (s : Shape) (lane : Option ℕ) (p g c : ℕ) (e : Entry) → Stands s lane e → 0 < at_birth_as p g c e
     → p < s.lanes * s.handles
 stands_there s lane p g c (At o k n) st lt = ⊎_elim
-    (λ (z : (did_birth p n.did ≡ 0) × ((g : ℕ) → did_end p g n.did ≡ 0)). let y = at_place p g c n.did z.0 in
+    (λ (z : (did_birth p n.did ≡ 0) × ((g : ℕ) → did_end p g n.did ≡ 0)). let y = as_birth p g c n.did z.0 in
     absurd (omega (arith, y, lt)))
     (λ (e : o ≡ Root p). subst (IsKnown s) e st.object)
     (st.in_place.rooted p)
@@ -103,7 +80,7 @@ module _ {H : Type 0} (stands : List ℕ → Setting → List Noted → H → Ty
       let p : ℕ = r.place in let g : ℕ = r.generation in let c : ℕ = r.capacity in
       let of = sum_by-le-sum_by (λ (q : Part). sum_by (at_birth_as p g c) q.notes)
       (λ (q : Part). sum_by (at_birth_of p g) q.notes) (parts_of v)
-      (λ q. sum_by-le-sum_by (at_birth_as p g c) (at_birth_of p g) q.notes (as_of p g c)) in
+      (λ q. sum_by-le-sum_by (at_birth_as p g c) (at_birth_of p g) q.notes (as_of_entry p g c)) in
       let a = one_is (at_birth_as p g c) in
       let down : taken p v ≤ put_down p v = dite (dec_le (taken p v) (put_down p v)) (λ le. le)
       (λ gt. absurd (none (let x : ℕ = taken p v in let y : ℕ = put_down p v in let gt' : x ≤ y

@@ -21,6 +21,8 @@ use Rattle.pool_law.specs.Logs.{History, dids, of_lane, own, IsHistory as IsLawf
 use Rattle.pool_law.specs.Mails.{MailsHold}
 use Rattle.pool_law.specs.Legal.{HistoriesHold}
 use Rattle.pool_law.proofs.HistoryLemmas.{history_of-is}
+use Rattle.pool_law.proofs.ListLemmas.{map-get}
+pub use Rattle.pool_law.proofs.ListLemmas.{map-get as in_map}
 use Rattle.pool_table.specs.declared.views.Entry.{Entry}
 use Rattle.pool_table.specs.declared.views.Entry.TheVariants.{At, Ref, Busy}
 use Rattle.pool_table.specs.declared.views.Layout.{Layout}
@@ -38,12 +40,6 @@ use Rattle.shared_pool.proofs.ClosingHistories.{object_or, notes_in, own_none, i
 -- what holds of each holds of one
 pub at : {X : Type 0} (P : X → Type 0) (xs : List X) (i : ℕ) (x : X) → All P xs → slice_get xs i ≡ Some x → P x
 at P xs i x all is = subst P (get_or_from_slice_get xs i x x is) (all i x (slice_get_within xs i x is))
-
-pub in_map : {X Y : Type 0} (f : X → Y) (xs : List X) (i : ℕ) (y : Y) → slice_get (map f xs) i ≡ Some y
-    → (x : X) × (slice_get xs i ≡ Some x) × (f x ≡ y)
-in_map f [] i y is = absurd (cc is)
-in_map f (x ∷ xs) zero y is = (x, refl, cc is)
-in_map f (x ∷ xs) (suc i) y is = in_map f xs i y is
 
 pub there_or : {X : Type 0} (xs : List X) (i : ℕ) → ((x : X) × (slice_get xs i ≡ Some x)) ⊎ (length xs ≤ i)
 there_or [] i = inr (omega arith)
@@ -173,7 +169,7 @@ module _ {H : Type 0} (stands : List ℕ → Setting → List Noted → H → Ty
         let r = in_parts (is_numbered (k + 1)) (map here (parts_of v))
         (let m : ℕ = in_object_view (is_numbered (k + 1)) (object_view l.shape (home_of l.shape o) v) in let e : m
         ≡ 1 = once in let g : 0 < m = omega (arith, e) in g) in
-        let q = in_map here (parts_of v) r.0 r.1 r.2 in
+        let q = map-get here (parts_of v) r.0 r.1 r.2 in
         let t = told_at r.0 q.0 q.1 in
         let there : slice_get (here q.0).notes r.3
         ≡ Some r.4 = subst (λ (x : Part). slice_get x.notes r.3 ≡ Some r.4) (sym q.2) r.5 in

@@ -2,7 +2,7 @@
 use Rattle.std.proofs.Common.{◌≡◌, ◌≢◌, ℕ, zero, suc, ◌+◌, ◌<◌, ◌≤◌, List, [], ◌∷◌, ◌++◌, append_assoc, append-nil, length, take, drop, Bool, true, false, cond, sym, refl, ap, ◌∙◌, subst, arith, get_or, eq-eqb, ne_eqb, inl, Some, None}
 use Rattle.std.specs.Prelude.{◌==◌, ◌||◌, not, if◌then◌else◌, Option, All, sum_by, slice_get, slice_set}
 use Rattle.std.specs.List.{list_any}
-use Rattle.std.proofs.lemmas.List.Elements.{All-head, All-tail, All-nil, All-cons, All-append}
+use Rattle.std.proofs.lemmas.List.Elements.{All-head, All-tail, All-append}
 use Rattle.std.proofs.lemmas.List.Sums.{sum_by-cons, sum_by-append}
 use Rattle.std.proofs.lemmas.Option.{slice_get_within}
 use mathlib.Core.Logic.{dite}
@@ -14,8 +14,10 @@ use Rattle.pool_law.specs.declared.id.RegionId.{RegionId}
 use Rattle.pool_law.specs.Arenas.{Arena as ArenaLaw, is_out_of}
 use Rattle.pool_law.specs.Places.{IsInPlace}
 use Rattle.pool_law.specs.Same.{same_taking}
+use Rattle.pool_law.proofs.PatternLemmas.{same_taking-refl}
+use Rattle.pool_law.proofs.ListLemmas.{slice_get-set_other, get-front, item-at as place_there, front-is}
 use Rattle.history_laws.specs.NoteCounts.{one_if_so, is_taking}
-use Rattle.history_laws.proofs.Names.{same_taking-is, same_taking-both, same_taking-key, same_taking-refl}
+use Rattle.history_laws.proofs.Names.{same_taking-is, same_taking-both, same_taking-key}
 use Rattle.arena_laws.specs.Slots.{ArenaHolds, IsLocated, EachOf}
 use Rattle.arena_laws.specs.Covered.{IsCovered}
 use Rattle.arena_laws.proofs.ArenaLaw.{give-holds}
@@ -27,8 +29,8 @@ use Rattle.pool_arena.specs.ArenaStates.{ArenaState, law_of, IsOutOf, Gives, AtR
 use Rattle.shared_pool.specs.declared.home.Home.{Home}
 use Rattle.shared_pool.specs.declared.home.Home.TheVariants.{Arena, Cache, Bin, Root}
 use Rattle.shared_pool.proofs.ClosingEntries.{from_at}
-use Rattle.shared_pool.proofs.Openings.{at_left, there_at as place_there}
 use Rattle.shared_pool.specs.Emptying.{Left, left_at, left_of, IsOutside, IsArenaWith, AreOut, MayGive, GivesAt, IsResting}
+use Rattle.step_law.proofs.Changes.{each_front, each_back}
 
 -- ---- Takings in a list.
 
@@ -253,13 +255,6 @@ set_here [] i y x is = absurd (cc is)
 set_here (z ∷ xs) zero y x is = refl
 set_here (z ∷ xs) (suc i) y x is = set_here xs i y x is
 
-pub set_other : {X : Type 0} (xs : List X) (i j : ℕ) (x : X) → j ≢ i → slice_get (slice_set xs i x) j ≡ slice_get xs j
-set_other [] i j x ne = refl
-set_other (z ∷ xs) zero zero x ne = absurd (ne refl)
-set_other (z ∷ xs) zero (suc j) x ne = refl
-set_other (z ∷ xs) (suc i) zero x ne = refl
-set_other (z ∷ xs) (suc i) (suc j) x ne = set_other xs i j x (λ e. ne (ap suc e))
-
 pub there_at : {X : Type 0} (xs : List X) (i : ℕ) (y d : X) → slice_get xs i ≡ Some y
     → (i < length xs) × (get_or xs i d ≡ y)
 there_at [] i y d is = absurd (cc is)
@@ -268,13 +263,8 @@ there_at (z ∷ xs) (suc i) y d is =
     let r = there_at xs i y d is in
     (let n : ℕ = length xs in let r' : i < n = r.0 in let g : suc i < suc n = omega (arith, r') in g, r.1)
 
--- a slice that is written back into a vector
-all_taken : {X : Type 0} (xs ys : List X) → take (length xs) (xs ++ ys) ≡ xs
-all_taken [] ys = refl
-all_taken (x ∷ xs) ys = ap (λ zs. x ∷ zs) (all_taken xs ys)
-
 pub written : {X : Type 0} (n : ℕ) (xs ys : List X) → n ≡ length xs → take n (xs ++ drop (length xs) ys) ≡ xs
-written n xs ys e = ap (λ (m : ℕ). take m (xs ++ drop (length xs) ys)) e ∙ all_taken xs (drop (length xs) ys)
+written n xs ys e = ap (λ (m : ℕ). take m (xs ++ drop (length xs) ys)) e ∙ front-is xs (drop (length xs) ys)
 
 -- ---- Nothing is left.
 
@@ -328,15 +318,6 @@ left_behind (y ∷ rest) x =
     ap (λ (xs : List Left). left_at y ++ xs) (left_behind rest x)
     ∙ sym (append_assoc (left_at y) (left_of rest) (left_at x ++ []))
 
-all_before : {X : Type 0} (P : X → Type 0) (xs ys : List X) → All P (xs ++ ys) → All P xs
-all_before P [] ys all = All-nil P
-all_before P (x ∷ xs) ys all =
-    All-cons P x xs (All-head P x (xs ++ ys) all) (all_before P xs ys (All-tail P x (xs ++ ys) all))
-
-all_behind : {X : Type 0} (P : X → Type 0) (xs ys : List X) → All P (xs ++ ys) → All P ys
-all_behind P [] ys all = all
-all_behind P (x ∷ xs) ys all = all_behind P xs ys (All-tail P x (xs ++ ys) all)
-
 -- the last of them comes into the hand
 pub popped : (n : ℕ) (homes rest : List (Option Home)) (x : Option Home) → homes ≡ rest ++ x ∷ [] → n ≤ length rest
     → AreOut n homes (left_of homes) → AreOut n rest (left_at x ++ left_of rest)
@@ -345,7 +326,7 @@ popped n homes rest x is le o = record {
   out = o.out;
   arena = λ k lt. let t = place_there rest k (omega (arith, lt, le)) in
       subst (IsArenaWith o.grounds k (o.out k))
-      (ap (λ (xs : List (Option Home)). slice_get xs k) is ∙ at_left rest (x ∷ []) k t.0 t.1 ∙ sym t.1)
+      (ap (λ (xs : List (Option Home)). slice_get xs k) is ∙ get-front rest (x ∷ []) k t.0 t.1 ∙ sym t.1)
       (o.arena k lt);
   once = o.once;
   left_is = λ q lt.
@@ -358,8 +339,8 @@ popped n homes rest x is le o = record {
   placed = let P : Left → Type 0 = λ (y : Left). (y.0.place.arena < n) × IsInPlace o.grounds y.0.place y.1 in
       let all = subst (λ (xs : List Left). All P xs)
       (ap left_of is ∙ left_behind rest x ∙ (λ i. left_of rest ++ append-nil (left_at x) i)) o.placed in
-      All-append P (left_at x) (left_of rest) (all_behind P (left_of rest) (left_at x) all)
-      (all_before P (left_of rest) (left_at x) all);
+      All-append P (left_at x) (left_of rest) (each_back P (left_of rest) (left_at x) all)
+      (each_front P (left_of rest) (left_at x) all);
 }
 
 -- an arena in the place of another changes nothing of what is left
@@ -391,4 +372,4 @@ handed n homes r p left y z o is gives =
     subst (λ (xs : List Left). AreOut n (slice_set homes k z) (left ++ xs))
     (sym (left_set homes k y z is (both_arenas y z r gives)))
     (gave n homes r p (left ++ left_of homes) o (slice_set homes k z) y z is (set_here homes k y z is) gives
-    (λ j ne. set_other homes k j z ne))
+    (λ j ne. slice_get-set_other homes k j z ne))

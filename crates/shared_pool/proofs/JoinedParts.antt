@@ -19,6 +19,7 @@ use Rattle.pool_table.specs.declared.views.SeatView.{SeatView}
 use Rattle.pool_table.specs.Closed.{HasAllLanes}
 use Rattle.pool_table.specs.Counts.{weigh, weigh_in, on_place, on_this, ref_born, ref_ended, ref_vacated}
 use Rattle.pool_law.specs.declared.id.RegionId.{RegionId}
+use Rattle.pool_law.proofs.ListLemmas.{map-get}
 use Rattle.history_laws.specs.NoteCounts.{is_taking}
 use Rattle.pool_table.specs.Hands.{HasTaking, at_in, at_out, taken, put_down, from_arena, to_arena, from_cache, to_cache, from_place, to_place, grasped, laid}
 use Rattle.shared_pool.specs.SeatViews.{view_of}
@@ -34,7 +35,6 @@ use Rattle.shared_pool.specs.Mails.{AreFetches}
 use Rattle.shared_pool.specs.Seated.{HasNothing, IsDone, AreDone, parts_in}
 use Rattle.shared_pool.proofs.ClosingEntries.{from_at}
 use Rattle.shared_pool.proofs.ClosingMails.{lanes_all}
-use Rattle.shared_pool.proofs.ClosingWhole.{in_map}
 
 -- nothing in hand, by parts
 abbrev pub HasNoToken : List Part → Type 0
@@ -165,7 +165,7 @@ module _ (pool : SharedPool) (seats : List PoolSeat) (done : AreDone pool seats)
         many = length-map seats (λ (s : PoolSeat). (view_of s).own) ∙ done.many;
         numbers =
             λ lane p is. let t =
-            in_map (λ (s : PoolSeat). (view_of s).own) seats lane p is in
+            map-get (λ (s : PoolSeat). (view_of s).own) seats lane p is in
             ap (λ (q : Part). q.number) (sym t.2) ∙ (one lane t.0 t.1).number;
       }
 

@@ -45,7 +45,7 @@ use Rattle.shared_pool.specs.Spending.{Spends, PostsNothing}
 use Rattle.shared_pool.proofs.SeatEnds.{IsQuiet, letters_quiet, quiet_ref, quiet_stays}
 
 -- a quota over two lists of entries
-quota_append : (lane class quota : ℕ) (xs ys : List Entry)
+pub quota_append : (lane class quota : ℕ) (xs ys : List Entry)
     → quota_from lane class quota (xs ++ ys) ≡ quota_from lane class (quota_from lane class quota xs) ys
 quota_append lane class quota [] ys = refl
 quota_append lane class quota (At o k n ∷ xs) ys =

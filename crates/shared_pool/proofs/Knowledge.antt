@@ -11,6 +11,7 @@ use Rattle.pool_law.specs.declared.note.Object.TheVariants.{Mail}
 use Rattle.pool_law.specs.Capacities.{told_by, known_of}
 use Rattle.pool_law.specs.Logs.{ToldNote}
 use Rattle.pool_law.specs.Naming.{noted_by}
+use Rattle.pool_law.proofs.PatternLemmas.{same_root-refl}
 use Rattle.pool_table.specs.declared.views.Entry.{Entry}
 use Rattle.pool_table.specs.declared.views.Entry.TheVariants.{At}
 use Rattle.pool_table.specs.declared.views.SeatView.{SeatView}
@@ -23,9 +24,8 @@ use Rattle.shared_pool.specs.Notes.{plain}
 use Rattle.shared_pool.specs.SeatLanes.{lane_of}
 use Rattle.shared_pool.specs.SeatViews.{view_of}
 use Rattle.shared_pool.specs.declared.seat.PoolSeat.{PoolSeat}
-use Rattle.shared_pool.proofs.PlaceLaws.{same_root-refl}
 
-regroup : (a k t : ℕ) → max a (max k t) ≡ max (max a k) t
+pub regroup : (a k t : ℕ) → max a (max k t) ≡ max (max a k) t
 regroup a k t = omega arith
 
 turn : (t : ℕ) → max t 0 ≡ max 0 t

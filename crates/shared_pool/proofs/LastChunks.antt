@@ -1,22 +1,20 @@
 -- The chunks that the arenas of a closed table have in a list are those that the notes tell.
 use Rattle.std.proofs.Common.{◌≡◌, ℕ, zero, suc, ◌+◌, ◌<◌, ◌≤◌, List, [], ◌∷◌, ◌++◌, length, sym, refl, ap, ◌∙◌, subst, arith, append_assoc, append-nil, drop, Some, None}
 use Rattle.std.specs.Prelude.{Option, IfSome, unwrap_or, slice_get}
-use mathlib.Core.Option.{some, some-injective, some-ne-none}
-use lib.ListN.{get_elem?}
 use Rattle.step_law.specs.Settings.{Setting}
+use Rattle.step_law.proofs.Changes.{in_list}
 use Rattle.size_classes.specs.Sizes.{below}
 use Rattle.pool_law.specs.declared.id.RegionId.{RegionId}
 use Rattle.pool_law.specs.declared.note.Object.{Object}
 use Rattle.pool_law.specs.declared.note.Object.TheVariants.{Arena as ArenaOf}
 use Rattle.pool_law.specs.declared.report.ChunkEnd.{ChunkEnd}
-use Rattle.pool_law.specs.declared.run.Shape.{Shape}
 use Rattle.pool_law.specs.Arenas.{listed, chunk_end, chunk_ends_from, chunk_ends}
 use Rattle.pool_law.specs.Chunks.{Chunk}
 use Rattle.pool_law.specs.Histories.{arena_after}
 use Rattle.pool_law.specs.Homes.{home_of, IsObjectOf}
 use Rattle.pool_law.specs.Legal.{ends_of, arena_ends, ends_from}
 use Rattle.pool_law.specs.Limits.{geometry_of}
-use Rattle.pool_law.specs.Logs.{Logs}
+use Rattle.pool_law.proofs.LogLemmas.{ends-push}
 use Rattle.history_laws.specs.Measures.{measures_of}
 use Rattle.pool_table.specs.declared.views.Layout.{Layout}
 use Rattle.pool_table.specs.declared.views.SeatView.{SeatView}
@@ -31,12 +29,6 @@ use Rattle.shared_pool.specs.declared.home.Home.TheVariants.{Arena, Cache, Bin, 
 use Rattle.shared_pool.proofs.ArenaHomes.{as_told}
 use Rattle.shared_pool.proofs.ClosingWhole.{dids_at}
 
--- what stands at a place of a list
-pub in_list : {X : Type 0} (xs : List X) (i : ℕ) (x : X) → get_elem? xs i ≡ some x → slice_get xs i ≡ Some x
-in_list [] i x e = absurd (some-ne-none x (sym e))
-in_list (y ∷ xs) zero x e = ap (λ z. Some z) (some-injective y x e)
-in_list (y ∷ xs) (suc i) x e = in_list xs i x e
-
 -- what is told of one more
 pub chunks_push : (homes : List (Option Home)) (ks : List ℕ) (k : ℕ)
     → chunks_from homes (ks ++ k ∷ []) ≡ chunks_from homes ks ++ chunks_in (slice_get homes k)
@@ -44,13 +36,6 @@ chunks_push homes [] k = append-nil (chunks_in (slice_get homes k))
 chunks_push homes (j ∷ ks) k =
     ap (λ es. chunks_in (slice_get homes j) ++ es) (chunks_push homes ks k)
     ∙ sym (append_assoc (chunks_in (slice_get homes j)) (chunks_from homes ks) (chunks_in (slice_get homes k)))
-
-ends_push : (shape : Shape) (logs : Logs) (ks : List ℕ) (k : ℕ)
-    → ends_from shape logs (ks ++ k ∷ []) ≡ ends_from shape logs ks ++ arena_ends shape logs k
-ends_push shape logs [] k = append-nil (arena_ends shape logs k)
-ends_push shape logs (j ∷ ks) k =
-    ap (λ es. arena_ends shape logs j ++ es) (ends_push shape logs ks k)
-    ∙ sym (append_assoc (arena_ends shape logs j) (ends_from shape logs ks) (arena_ends shape logs k))
 
 -- what is left of a list from a place on
 drop_at : (xs : List (Option Chunk)) (i : ℕ) → i < length xs
@@ -151,7 +136,7 @@ module _ (l : Layout) (v : SeatView) (homes : List (Option Home)) (words : List 
   ends_below zero le = refl
   ends_below (suc n) le =
       let one = one_end n (omega (arith, le)) in let ih = ends_below n (omega (arith, le)) in
-      chunks_push homes (below n) n ∙ (λ i. ih i ++ one i) ∙ sym (ends_push l.shape (logs_in (parts_of v)) (below n) n)
+      chunks_push homes (below n) n ∙ (λ i. ih i ++ one i) ∙ sym (ends-push l.shape (logs_in (parts_of v)) (below n) n)
 
   -- the chunks are those that the notes tell
   pub chunks_told : chunks_from homes (below l.shape.arenas)

@@ -14,6 +14,7 @@ use Rattle.pool_law.specs.declared.run.Shape.{Shape}
 use Rattle.pool_law.specs.Homes.{objects_of}
 use Rattle.pool_law.specs.Leaks.{kept_of}
 use Rattle.pool_law.specs.Logs.{of_lane}
+use Rattle.pool_law.proofs.ListLemmas.{get-front, get-further}
 use Rattle.pool_table.specs.declared.views.Entry.{Entry}
 use Rattle.pool_table.specs.declared.views.Part.{Part}
 use Rattle.leak_records.specs.declared.live.LiveRoot.{LiveRoot}
@@ -21,7 +22,6 @@ use Rattle.leak_records.specs.Records.{Tracked, HasRecords, is_keeping}
 use Rattle.shared_pool.specs.Ends.{count_in, told_here, told_from, first_place}
 use Rattle.shared_pool.specs.Live.{IsLive, live_of}
 use Rattle.shared_pool.specs.declared.home.Home.{Home}
-use Rattle.shared_pool.proofs.Openings.{at_left, at_right}
 
 -- ---- What is told of places, one after another.
 
@@ -75,8 +75,8 @@ module _ (parts : List Part) where
     told = (λ i. b.told i ++ a.told i) ∙ sym (map-append (λ (x : Named). live_of parts x.0 x.1) b.roots qs);
     each = All-append (IsLive parts) b.roots qs b.each a.each;
     all = λ x live lt. dite (ℕ_discrete x.0.place n)
-        (λ e. let r = a.all x live e in (length b.roots + r.0, at_right b.roots qs r.0 ∙ r.1))
-        (λ ne. let r = b.all x live (omega (arith, lt, ne)) in (r.0, at_left b.roots qs r.0 x r.1));
+        (λ e. let r = a.all x live e in (length b.roots + r.0, get-further b.roots qs r.0 ∙ r.1))
+        (λ ne. let r = b.all x live (omega (arith, lt, ne)) in (r.0, get-front b.roots qs r.0 x r.1));
     there = All-append (λ (x : Named). x.0.place < suc n) b.roots qs
         (All-weaker (λ (x : Named). x.0.place < n) (λ (x : Named). x.0.place < suc n) (λ x lt. omega (arith, lt))
         b.roots b.there)

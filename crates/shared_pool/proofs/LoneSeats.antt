@@ -1,5 +1,5 @@
 -- A seat that bore a root and posted it to nobody: that it stays so, and what it reads.
-use Rattle.std.proofs.Common.{◌≡◌, ◌≢◌, ⊎_elim, ℕ, ◌+◌, ◌-◌, ◌<◌, Bool, true, false, cond, List, [], ◌∷◌, ◌++◌, length, sym, ap, ◌∙◌, subst, refl, arith, eqb-true, eq-eqb}
+use Rattle.std.proofs.Common.{◌≡◌, ◌≢◌, ⊎_elim, ℕ, ◌+◌, ◌-◌, ◌<◌, Bool, true, false, cond, List, [], ◌∷◌, ◌++◌, length, sym, ap, ◌∙◌, subst, refl, arith, eqb-true}
 use Rattle.std.specs.Prelude.{◌==◌, ◌&&◌, nat_le, if◌then◌else◌, Option, Some, None, IfSome, option_map, sum_by}
 use Rattle.std.proofs.lemmas.List.Sums.{sum_by_push, sum_by-le-sum_by, fold_push}
 use Rattle.step_law.specs.declared.Told.{Ghosts}
@@ -18,12 +18,15 @@ use Rattle.pool_law.specs.Logs.{present_in}
 use Rattle.pool_law.specs.Naming.{noted_by}
 use Rattle.pool_law.specs.Roots.{RootPlace, Present, new_place, may_be_born, born, bytes_at, laid_over, place_step, place_step_by}
 use Rattle.pool_law.specs.Same.{same_root, same_bytes}
+use Rattle.pool_law.proofs.SameLemmas.{and-first, and-second, same_bytes-is}
+use Rattle.pool_law.proofs.PatternLemmas.{same_root-refl}
 use Rattle.history_laws.specs.Histories.{IsHistory, IsPlaceAfter}
-use Rattle.history_laws.specs.NoteCounts.{did_birth_as, did_post_of, view_of_root}
+use Rattle.history_laws.specs.NoteCounts.{did_post_of, view_of_root}
 use Rattle.history_laws.proofs.BinSteps.{so}
-use Rattle.history_laws.proofs.Names.{and-first, and-second, same_root-refl, same_root-or}
+use Rattle.history_laws.proofs.Names.{same_root-or}
 use Rattle.history_laws.proofs.Runs.{last_note}
 use Rattle.history_laws.proofs.Told.{place_there}
+use Rattle.history_laws.proofs.Roots.{its_birth}
 use Rattle.pool_table.specs.declared.views.Entry.{Entry}
 use Rattle.pool_table.specs.declared.views.Entry.TheVariants.{At, Ref}
 use Rattle.pool_table.specs.declared.views.Layout.{Layout}
@@ -107,11 +110,6 @@ own_written pool old new number offset bytes root noted =
 
 -- ---- It is alone with a root that it bears.
 
-itself : (r : RootId) (z : RegionId) → did_birth_as r.place r.generation r.capacity (Birth r z) ≡ 1
-itself r z = λ i. cond {A = ℕ}
-    ((eq-eqb r.place r.place refl i && eq-eqb r.generation r.generation refl i)
-    && eq-eqb r.capacity r.capacity refl i) 1 0
-
 pub lone_born : (v : SeatView) (o : Object) (number t m : ℕ) (lane : Option ℕ) (root : RootId) (region : RegionId)
     (watch : Option Watch) → sum_by (names root) v.own.notes ≡ 0
     → IsLone root (with_ref (with_entry v (At o number (noted_by lane (birth root region watch))) t) root Born m)
@@ -121,20 +119,12 @@ lone_born v o number t m lane root region watch none =
     let b = sum_by_push (births root) (v.own.notes ++ e ∷ []) (Ref root Born) in
     let c = sum_by_push (posts root) v.own.notes e in
     let d = sum_by_push (posts root) (v.own.notes ++ e ∷ []) (Ref root Born) in
-    let one : births root e ≡ 1 = itself root (used region) in let z : posts root e ≡ 0 = refl in
+    let one : births root e ≡ 1 = its_birth root (used region) in let z : posts root e ≡ 0 = refl in
     let y : posts root (Ref root Born) ≡ 0 = refl in
     let le = sum_by-le-sum_by (posts root) (names root) v.own.notes (post_names root) in
     record { born = omega (arith, a, b, one); kept = omega (arith, c, d, z, y, le, none) }
 
 -- ---- Sections.
-
-same_bytes-is : (xs ys : List ℕ) → same_bytes xs ys ≡ true → xs ≡ ys
-same_bytes-is [] [] is = refl
-same_bytes-is [] (y ∷ ys) is = absurd (cc is)
-same_bytes-is (x ∷ xs) [] is = absurd (cc is)
-same_bytes-is (x ∷ xs) (y ∷ ys) is =
-    let a = eqb-true x y (and-first (x == y) (same_bytes xs ys) is) in
-    let b = same_bytes-is xs ys (and-second (x == y) (same_bytes xs ys) is) in λ i. a i ∷ b i
 
 module _ {G : Ghosts Home Noted} (l : Layout) (p : ℕ) (old new : TableSeat Home G) (section : Section Home)
     (got : GotSection HomeStands l (RootOf p) old new section) where

@@ -12,7 +12,7 @@ use Rattle.pool_law.specs.Same.{same_root}
 use Rattle.pool_law.specs.Logs.{ToldNote}
 use Rattle.pool_law.specs.Counts.{view_is_of, root_is, note_gains, note_loses, note_needs, ref_gains, ref_loses, ref_needs, count_step, CountsHold, is_retain, is_release, count_in}
 use Rattle.pool_law.specs.Legal.{LooksHold, LookAt, one_if}
-use Rattle.history_laws.proofs.Names.{same_root-is}
+use Rattle.pool_law.proofs.SameLemmas.{same_root-is}
 use Rattle.shared_pool.specs.Looks.{LookRight, LooksRight}
 
 -- a note adds what it gains and takes what it loses, where the lane counts the root

@@ -35,7 +35,7 @@ way_is a b = λ i. cond {A = ℕ} (eq-eqb a a refl i && eq-eqb b b refl i) 1 0
 other_to : (a b c : ℕ) → b ≢ c → cond {A = ℕ} ((a == a) && (b == c)) 1 0 ≡ 0
 other_to a b c apart = λ i. cond {A = ℕ} (eq-eqb a a refl i && ne_eqb b c apart i) 1 0
 
-other_from : (a b c : ℕ) → a ≢ c → cond {A = ℕ} ((a == c) && (b == b)) 1 0 ≡ 0
+pub other_from : (a b c : ℕ) → a ≢ c → cond {A = ℕ} ((a == c) && (b == b)) 1 0 ≡ 0
 other_from a b c apart = λ i. cond {A = ℕ} (ne_eqb a c apart i && (b == b)) 1 0
 
 module _ (from to number : ℕ) (lane : Option ℕ) (parcel : Parcel) (es : List Entry) where

@@ -11,6 +11,7 @@ use Rattle.pool_law.specs.declared.run.Shape.{Shape}
 use Rattle.pool_law.specs.Arenas.{Arena as ArenaLaw, new_arena}
 use Rattle.pool_law.specs.Homes.{objects_of}
 use Rattle.pool_law.specs.Limits.{cache_capacity}
+use Rattle.pool_law.proofs.ListLemmas.{get-map}
 use Rattle.history_laws.specs.Measures.{measures_of}
 use Rattle.pool_arena.specs.ArenaStates.{ArenaState, IsNew}
 use Rattle.region_cache.proofs.StandingLaws.{stands_new as cache_new}
@@ -21,7 +22,7 @@ use Rattle.shared_pool.specs.declared.home.Home.TheVariants.{Arena, Cache, Bin, 
 use Rattle.shared_pool.specs.Settling.{grounds_in, settled_by}
 use Rattle.shared_pool.specs.Standing.{HomeStands, HasClassLength, IsArenaAt, IsCacheAt, IsBinAt, IsPlaceAt}
 use Rattle.shared_pool.specs.Opening.{IsFirstArena, IsCacheOf, IsFirstCache, IsFirstBin, IsNewRoot, AreFirst}
-use Rattle.shared_pool.proofs.Openings.{added, kept, longer_by, silent, told_at, map_at}
+use Rattle.shared_pool.proofs.Openings.{added, kept, longer_by, silent, told_at}
 
 -- ---- A new value stands for no notes.
 
@@ -184,7 +185,7 @@ module _ (s : Shape) (homes : List Home) (f : AreFirst s homes) where
         t.0,
         from_first a t.0 at,
         arena_home_stands s (settled_by homes) a t.0 t.2
-            (ap (λ ys. slice_get ys a) grounds_are ∙ map_at grounds_at f.first a t.0 at),
+            (ap (λ ys. slice_get ys a) grounds_are ∙ get-map grounds_at f.first a t.0 at),
       )
   all_stand (CacheOf lane class) fits =
       let k : ℕ = lane * 40 + class in

@@ -1,8 +1,9 @@
 -- Home values are added one after another.
-use Rattle.std.proofs.Common.{◌≡◌, ℕ, zero, suc, ◌+◌, ◌<◌, List, [], ◌∷◌, ◌++◌, length, map, sym, ap, ◌∙◌, subst, refl, arith, append_assoc, append-nil}
+use Rattle.std.proofs.Common.{◌≡◌, ℕ, zero, suc, ◌+◌, ◌<◌, List, [], ◌∷◌, ◌++◌, length, map, sym, ap, ◌∙◌, subst, refl, append_assoc, append-nil}
 use Rattle.std.specs.Prelude.{Option, Some, None, slice_get, filter_map}
 use Rattle.std.specs.List.{cons_option}
-use Rattle.pool_law.proofs.ListLemmas.{slice_get-below}
+use Rattle.pool_law.proofs.ListLemmas.{slice_get-below, get-front, get-further, item-at}
+pub use Rattle.pool_law.proofs.ListLemmas.{item-at as there_at, get-map as map_at}
 use Rattle.std.proofs.lemmas.List.{length_push, length-append}
 use Rattle.std.proofs.lemmas.List.Elements.{filter_map-append}
 use Rattle.shared_pool.specs.declared.home.Home.{Home}
@@ -31,36 +32,20 @@ adds_push P n old mid new x a here is =
 
 -- ---- Where what was added stands.
 
-pub at_left : {X : Type 0} (xs ys : List X) (k : ℕ) (x : X) → slice_get xs k ≡ Some x → slice_get (xs ++ ys) k ≡ Some x
-at_left [] ys k x e = absurd (cc e)
-at_left (z ∷ xs) ys zero x e = e
-at_left (z ∷ xs) ys (suc k) x e = at_left xs ys k x e
-
-pub at_right : {X : Type 0} (xs ys : List X) (k : ℕ) → slice_get (xs ++ ys) (length xs + k) ≡ slice_get ys k
-at_right [] ys k = ap (slice_get ys) (let e : 0 + k ≡ k = omega arith in e)
-at_right (z ∷ xs) ys k =
-    ap (slice_get (z ∷ xs ++ ys)) (let e : suc (length xs) + k ≡ suc (length xs + k) = omega arith in e)
-    ∙ at_right xs ys k
-
-pub there_at : {X : Type 0} (xs : List X) (k : ℕ) → k < length xs → (x : X) × (slice_get xs k ≡ Some x)
-there_at [] k lt = absurd (omega (arith, lt))
-there_at (z ∷ xs) zero lt = (z, refl)
-there_at (z ∷ xs) (suc k) lt = there_at xs k (omega (arith, lt))
-
 -- each of them is there, behind what was there before
 pub added : (P : ℕ → Home → Type 0) (n : ℕ) (old new : List Home) → Adds P n old new → (k : ℕ) → k < n
     → (x : Home) × (slice_get new (length old + k) ≡ Some x) × P k x
 added P n old new a k lt =
-    let t = there_at a.more k (subst (λ m. k < m) (sym a.many) lt) in (
+    let t = item-at a.more k (subst (λ m. k < m) (sym a.many) lt) in (
       t.0,
-      subst (λ xs. slice_get xs (length old + k) ≡ Some t.0) (sym a.is) (at_right old a.more k ∙ t.1),
+      subst (λ xs. slice_get xs (length old + k) ≡ Some t.0) (sym a.is) (get-further old a.more k ∙ t.1),
       a.each k t.0
           t.1,
     )
 
 pub kept : (P : ℕ → Home → Type 0) (n : ℕ) (old new : List Home) → Adds P n old new → (k : ℕ) (x : Home)
     → slice_get old k ≡ Some x → slice_get new k ≡ Some x
-kept P n old new a k x e = subst (λ xs. slice_get xs k ≡ Some x) (sym a.is) (at_left old a.more k x e)
+kept P n old new a k x e = subst (λ xs. slice_get xs k ≡ Some x) (sym a.is) (get-front old a.more k x e)
 
 pub longer_by : (P : ℕ → Home → Type 0) (n : ℕ) (old new : List Home) → Adds P n old new → length new ≡ length old + n
 longer_by P n old new a = ap length a.is ∙ (length-append old a.more ∙ ap (λ m. length old + m) a.many)
@@ -87,9 +72,3 @@ module _ {Y : Type 0} (f : Home → Option Y) where
   told_at [] g all = refl
   told_at (x ∷ xs) g all =
       ap (λ o. cons_option o (filter_map f xs)) (all 0 x refl) ∙ ap (λ ys. g x ∷ ys) (told_at xs g (λ k. all (suc k)))
-
-pub map_at : {X Y : Type 0} (g : X → Y) (xs : List X) (k : ℕ) (x : X) → slice_get xs k ≡ Some x
-    → slice_get (map g xs) k ≡ Some (g x)
-map_at g [] k x e = absurd (cc e)
-map_at g (z ∷ xs) zero x e = let same : z ≡ x = cc e in ap (λ y. Some (g y)) same
-map_at g (z ∷ xs) (suc k) x e = map_at g xs k x e

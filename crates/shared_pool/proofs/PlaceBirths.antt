@@ -18,13 +18,13 @@ use Rattle.pool_law.specs.declared.note.Object.TheVariants.{Root as RootOf}
 use Rattle.pool_law.specs.declared.report.Watch.{Watch}
 use Rattle.pool_law.specs.Limits.{geometry_of}
 use Rattle.pool_law.specs.Roots.{RootPlace, Present, new_place, place_step, place_step_by, born}
-use Rattle.pool_law.specs.Same.{same_taking}
 use Rattle.pool_law.specs.Histories.{place_after}
 use Rattle.pool_law.specs.Logs.{present_in}
 use Rattle.pool_law.specs.Naming.{noted_by}
 use Rattle.pool_law.specs.NotedHistories.{noted_dids}
 use Rattle.pool_law.specs.Places.{IsInPlace}
 use Rattle.pool_law.proofs.HistoryLemmas.{after-noted}
+use Rattle.pool_law.proofs.PatternLemmas.{same_root-refl, same_taking-refl}
 use Rattle.history_laws.specs.Histories.{root_after}
 use Rattle.history_laws.specs.Measures.{measures_of}
 use Rattle.history_laws.specs.NoteCounts.{is_taking, uses_in}
@@ -44,7 +44,6 @@ use Rattle.shared_pool.specs.PlaceSteps.{MayBear, used, cleared, born_root, with
 use Rattle.shared_pool.specs.declared.home.Home.{Home}
 use Rattle.shared_pool.specs.declared.home.Home.TheVariants.{Arena, Cache, Bin, Root}
 use Rattle.shared_pool.specs.Standing.{HomeStands, HasClassLength, IsPlaceAt, IsPlace, IfPlace}
-use Rattle.shared_pool.proofs.PlaceLaws.{same_root-refl}
 use Rattle.shared_pool.proofs.PlaceRecords.{unborn, watch_born}
 use Rattle.shared_pool.proofs.PlaceHomes.{place_at}
 
@@ -200,11 +199,6 @@ birth_waits v o k t lane root region watch hand fine =
     )
 
 -- ---- Ends.
-
-pub same_taking-refl : (q : RegionId) → same_taking q q ≡ true
-same_taking-refl q =
-    λ i. (one q.place.arena i && (one q.place.chunk i && (one q.place.offset i && one q.place.len i)))
-    && (one q.class i && (one q.taking i && one q.owner i))
 
 -- a view that noted an end may vacate the place
 pub end_waits : (v : SeatView) (k t : ℕ) (lane : Option ℕ) (root : RootId) (region : RegionId) → HasToken root v

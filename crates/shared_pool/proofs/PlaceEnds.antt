@@ -18,6 +18,7 @@ use Rattle.pool_law.specs.Naming.{noted_by}
 use Rattle.pool_law.specs.NotedHistories.{IsRightAt}
 use Rattle.pool_law.specs.Places.{IsInPlace}
 use Rattle.pool_law.proofs.HistoryLemmas.{after-noted}
+use Rattle.pool_law.proofs.PatternLemmas.{same_taking-refl}
 use Rattle.history_laws.specs.Histories.{root_after}
 use Rattle.history_laws.specs.Measures.{measures_of}
 use Rattle.handle_bin.specs.Bins.{HandleValue}
@@ -26,7 +27,6 @@ use Rattle.pool_table.specs.declared.table.PoolSeat.{PoolSeat}
 use Rattle.pool_table.specs.declared.table.Section.{Section}
 use Rattle.pool_table.specs.Seats.{view_of}
 use Rattle.pool_table.specs.Learned.{did_take_up}
-use Rattle.shared_pool.proofs.PlaceBirths.{same_taking-refl}
 use Rattle.pool_table.specs.Sections.{GotSection}
 use Rattle.shared_pool.specs.RootNotes.{end_of}
 use Rattle.shared_pool.specs.RootPlaces.{RootState, PlaceState, law_root, law_place, IsRootAt, PlaceStandsFor}

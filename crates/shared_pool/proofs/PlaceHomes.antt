@@ -18,6 +18,7 @@ use Rattle.pool_law.specs.Logs.{present_in, root_for, region_for}
 use Rattle.pool_law.specs.Naming.{noted_by}
 use Rattle.pool_law.specs.NotedHistories.{noted_dids, IsRightAt, IsRightWatch}
 use Rattle.pool_law.proofs.HistoryLemmas.{after-noted}
+use Rattle.pool_law.proofs.PatternLemmas.{same_root-refl}
 use Rattle.history_laws.specs.Histories.{IsHistory, root_after}
 use Rattle.history_laws.specs.Measures.{measures_of}
 use Rattle.history_laws.proofs.Runs.{right_push}
@@ -38,7 +39,6 @@ use Rattle.shared_pool.specs.PlaceStanding.{IsAccessed}
 use Rattle.shared_pool.specs.declared.home.Home.{Home}
 use Rattle.shared_pool.specs.declared.home.Home.TheVariants.{Arena, Cache, Bin, Root}
 use Rattle.shared_pool.specs.Standing.{HomeStands, HasClassLength, IsPlaceAt, IsPlace, IfPlace}
-use Rattle.shared_pool.proofs.PlaceLaws.{same_root-refl}
 use Rattle.shared_pool.proofs.PlaceRecords.{access_in, is_at, accesses_more, watch_same, short}
 use Rattle.shared_pool.proofs.Endings.{stood, IsNext}
 

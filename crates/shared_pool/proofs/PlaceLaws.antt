@@ -3,16 +3,17 @@ use Rattle.std.proofs.Common.{◌≡◌, ℕ, ◌+◌, ◌-◌, ◌≤◌, Bool,
 use Rattle.std.specs.Prelude.{Option, Some, None, option_map, unwrap_or, nat_le, ◌&&◌, if◌then◌else◌}
 use Rattle.std.proofs.lemmas.List.{take-append-le, drop-append-le, take-append-drop, length-take-le, length-drop, take_at}
 use Rattle.std.proofs.lemmas.Bool.{le-leb}
-use Rattle.pool_law.specs.declared.id.RootId.{RootId}
 use Rattle.pool_law.specs.declared.note.Did.{Did}
 use Rattle.pool_law.specs.declared.report.Access.{Access}
-use Rattle.pool_law.specs.Same.{same_bytes, same_root}
+use Rattle.pool_law.specs.Same.{same_bytes}
 use Rattle.pool_law.specs.Roots.{Present, laid_over, bytes_at, place_step, place_step_by}
+use Rattle.pool_law.proofs.PatternLemmas.{same_root-refl}
 use Rattle.shared_pool.specs.RootPlaces.{RootState, PlaceState, law_root, law_place}
 use Rattle.shared_pool.specs.PlaceViews.{root_seen, state_in}
 use Rattle.shared_pool.specs.declared.root_place.Root.{Root}
 use Rattle.shared_pool.specs.declared.root_place.RootPlace.TheInside.{Inside}
 use Rattle.shared_pool.specs.PlaceSteps.{MayAccess, Accesses, AreThere, accessed, shown, vacated}
+use Rattle.pool_table.proofs.GiftSteps.{laid-length}
 
 -- bytes that are laid over the first of a list leave the others
 pub laid-front : (xs ys : List ℕ) (a c : ℕ) → a + length ys ≤ c → c ≤ length xs
@@ -37,15 +38,6 @@ laid-front xs ys a c within fits =
     ap (λ (zs : List ℕ). take c (laid_over zs a ys)) (sym (take-append-drop c xs)) ∙ ap (take c) whole
     ∙ take_at (laid_over front a ys) rest c size
 
--- bytes that are laid over others are as many in all
-pub laid-length : (xs ys : List ℕ) (a : ℕ) → a + length ys ≤ length xs → length (laid_over xs a ys) ≡ length xs
-laid-length xs ys a within =
-    let before : length (take a xs) ≡ a = length-take-le a xs (omega (arith, within)) in
-    let behind : length (drop (a + length ys) xs) ≡ length xs - (a + length ys) = length-drop (a + length ys) xs in
-    let p = length-append (take a xs) (ys ++ drop (a + length ys) xs) in let q =
-    length-append ys (drop (a + length ys) xs) in
-    omega (arith, p, q, before, behind, within)
-
 -- bytes within the first of a list are there
 pub there-front : (xs : List ℕ) (a n c : ℕ) → a + n ≤ c → c ≤ length xs → bytes_at xs a n ≡ bytes_at (take c xs) a n
 there-front xs a n c within fits =
@@ -64,11 +56,6 @@ there-length xs a n within =
 pub same_bytes-refl : (xs : List ℕ) → same_bytes xs xs ≡ true
 same_bytes-refl [] = refl
 same_bytes-refl (x ∷ xs) = λ i. eq-eqb x x refl i && same_bytes-refl xs i
-
-pub same_root-refl : (r : RootId) → same_root r r ≡ true
-same_root-refl r =
-    λ i. eq-eqb r.place r.place refl i
-    && (eq-eqb r.generation r.generation refl i && eq-eqb r.capacity r.capacity refl i)
 
 -- the root's bytes in the law
 bytes_of : RootState → List ℕ

@@ -9,8 +9,7 @@ use Rattle.pool_law.specs.declared.note.Noted.{Noted}
 use Rattle.pool_law.specs.declared.report.Watch.{Watch}
 use Rattle.pool_law.specs.Same.{same_root, same_bytes}
 use Rattle.pool_law.specs.Roots.{RootPlace, Present, laid_over, bytes_at, zeros_to, born, may_be_born, with_bytes, place_step, place_step_by}
-use Rattle.pool_law.proofs.SameLemmas.{and-first, and-second}
-use Rattle.history_laws.proofs.Names.{same_root-is}
+use Rattle.pool_law.proofs.SameLemmas.{and-first, and-second, same_root-is}
 use Rattle.history_laws.proofs.BinSteps.{so}
 use Rattle.shared_pool.specs.RootPlaces.{watch_after}
 

@@ -24,6 +24,7 @@ use Rattle.pool_law.specs.NotedHistories.{noted_dids, IsRightAt}
 use Rattle.pool_law.specs.Places.{IsInPlace}
 use Rattle.pool_law.specs.Same.{same_root}
 use Rattle.pool_law.specs.Roots.{Present, RootPlace as LawPlace}
+use Rattle.pool_law.proofs.PatternLemmas.{same_root-refl, same_taking-refl}
 use Rattle.history_laws.specs.Histories.{IsHistory, root_after}
 use Rattle.history_laws.specs.Measures.{measures_of}
 use Rattle.pool_table.specs.declared.views.Entry.TheVariants.{At}
@@ -53,9 +54,7 @@ use Rattle.shared_pool.specs.declared.went.Grown.{Grown}
 use Rattle.shared_pool.specs.declared.went.Grown.TheVariants as grown
 use Rattle.shared_pool.proofs.Endings.{stood, IsNext}
 use Rattle.shared_pool.proofs.Knowledge.{knows-more}
-use Rattle.shared_pool.proofs.PlaceBirths.{same_taking-refl}
 use Rattle.shared_pool.proofs.PlaceHomes.{Fits, is_place, place_at, place_follows, counts_root}
-use Rattle.shared_pool.proofs.PlaceLaws.{same_root-refl}
 use Rattle.shared_pool.proofs.RegrowLaws.{enough}
 use Rattle.shared_pool.proofs.RegrowHomes.{Became, IsPooled, may_regrow, root_here, room_state, room_more, grown_state, grown_more}
 

@@ -1,5 +1,5 @@
 -- Lemmas for the tests: the seats of a pool with one lane, and of one with two.
-use Rattle.std.proofs.Common.{◌≡◌, ◌∙◌, ℕ, ◌+◌, ◌*◌, ◌<◌, List, [], ◌∷◌, ◌++◌, length, get_or, sym, ap, subst, refl, arith, length-append}
+use Rattle.std.proofs.Common.{◌≡◌, ◌∙◌, ℕ, ◌+◌, ◌*◌, List, [], ◌∷◌, ◌++◌, length, get_or, sym, ap, subst, refl, arith, length-append}
 use Rattle.std.specs.Prelude.{HoldsAt, Option, Some, None, slice_get, unwrap_or, option_map}
 use Rattle.std.proofs.lemmas.Option.{get_or_from_slice_get, same_Some, slice_get-map}
 use Rattle.pool_table.specs.declared.views.Entry.{Entry}
@@ -24,22 +24,6 @@ only_one {X} P items rest a many e each = go rest e
     go (x ∷ xs) is =
         let n = ap (λ (l : List X). length l) is in let u = length-append (x ∷ xs) (a ∷ []) in
         absurd (omega (arith, n, u, many))
-
--- the last two of two elements
-pub two_last : {X : Type 0} (P : ℕ → X → Type 0) (items rest less : List X) (a b : X) → length items ≡ 2
-    → items ≡ rest ++ b ∷ [] → rest ≡ less ++ a ∷ [] →
-    ((k : ℕ) → k < 2 → HoldsAt (P k) items k) → P 0 a × P 1 b
-two_last {X} P items rest less a b many e f each = go less (e ∙ ap (λ (r : List X). r ++ b ∷ []) f)
-  where
-    go : (less : List X) → items ≡ (less ++ a ∷ []) ++ b ∷ [] → P 0 a × P 1 b
-    go [] is =
-        let all : (k : ℕ) → k < 2 → HoldsAt (P k) (a ∷ b ∷ []) k =
-        subst (λ (l : List X). (k : ℕ) → k < 2 → HoldsAt (P k) l k) is each in
-        (all 0 (omega arith) a, all 1 (omega arith) a)
-    go (x ∷ xs) is =
-        let n = ap (λ (l : List X). length l) is in let u = length-append ((x ∷ xs) ++ a ∷ []) (b ∷ []) in let v =
-        length-append (x ∷ xs) (a ∷ []) in
-        absurd (omega (arith, n, u, v, many))
 
 -- the room of a mail, of those with which the pool opened
 pub room_at : (pool : SharedPool) (rooms : List ℕ) (k n : ℕ) → HasRooms pool rooms → slice_get rooms k ≡ Some n
