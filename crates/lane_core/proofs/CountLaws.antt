@@ -1,6 +1,6 @@
 -- What a lane counts, where it counts nothing, and once the count at a place has changed.
 use Rattle.std.proofs.Common.{◌≡◌, ◌≢◌, ℕ, zero, suc, ◌+◌, ◌<◌, Bool, true, false, List, [], ◌∷◌, length, refl, ap, ◌∙◌, subst, ⊎_elim, arith, Some}
-use Rattle.std.specs.Prelude.{if◌then◌else◌, slice_get, slice_set, All}
+use Rattle.std.specs.Prelude.{if◌then◌else◌, slice_get, slice_set}
 use Rattle.std.proofs.lemmas.Bool.{cases_eq, cases_Bool}
 use Rattle.pool_law.specs.declared.id.RootId.{RootId}
 use Rattle.pool_law.specs.Same.{same_root}
@@ -8,16 +8,8 @@ use Rattle.pool_law.proofs.ListLemmas.{slice_get-set_same, slice_get-set_other, 
 use Rattle.pool_law.proofs.SameLemmas.{same_root-is}
 use Rattle.lane_core.specs.declared.counts.Counted.{Counted}
 use Rattle.seat_work.specs.Changes.{one_for}
-use Rattle.seat_work.proofs.Counting.{zero_if, other_place, other_root}
+use Rattle.seat_work.proofs.Counting.{other_place, other_root}
 use Rattle.lane_core.specs.Counting.{if_counted, counted}
-
-none_at : (cs : List Counted) (n : ℕ) (root : RootId) → All (λ c. c.count ≡ 0) cs → if_counted (slice_get cs n) root ≡ 0
-none_at [] n root all = refl
-none_at (c ∷ cs) zero root all = zero_if (same_root c.root root) c.count (all 0 c (omega arith))
-none_at (c ∷ cs) (suc n) root all = none_at cs n root (λ k d lt. all (suc k) d (omega arith))
-
-pub none_counted : (cs : List Counted) → All (λ c. c.count ≡ 0) cs → (root : RootId) → counted cs root ≡ 0
-none_counted cs all root = none_at cs root.place root all
 
 -- the place of a root that is counted is there
 within_by : (cs : List Counted) (n : ℕ) (root : RootId) → 0 < if_counted (slice_get cs n) root → n < length cs

@@ -9,6 +9,7 @@ use Rattle.pool_table.specs.declared.views.Entry.{Entry}
 use Rattle.pool_table.specs.declared.views.SeatView.{SeatView}
 use Rattle.pool_table.specs.Capacities.{knows_of}
 use Rattle.pool_table.specs.LaneLogs.{law_entry, lane_entries}
+use Rattle.shared_pool.proofs.Knowledge.{regroup}
 
 -- what these entries tell of the root's capacity
 abbrev pub told_in : RootId → List Entry → ℕ
@@ -16,9 +17,6 @@ told_in r es = known_of r (map law_entry es)
 
 none_more : (k : ℕ) → k ≡ max 0 k
 none_more k = omega arith
-
-regroup : (a k t : ℕ) → max a (max k t) ≡ max (max a k) t
-regroup a k t = omega arith
 
 known_append : (r : RootId) (xs ys : List ToldNote) → known_of r (xs ++ ys) ≡ max (known_of r xs) (known_of r ys)
 known_append r [] ys = none_more (known_of r ys)

@@ -2,13 +2,15 @@
 use Rattle.std.proofs.Common.{◌≡◌, ℕ, ◌<◌, List, [], ◌∷◌, length, map, Some, refl, sym, ap, ◌∙◌, subst}
 use Rattle.std.specs.Prelude.{slice_get}
 use Rattle.std.proofs.lemmas.Option.{slice_get_within}
+use Rattle.std.proofs.lemmas.List.{length-map}
 use Rattle.pool_member.specs.declared.member.Member.{Member}
 use Rattle.pool_c.specs.declared.handle.PoolThread.{PoolThread}
 use Rattle.pool_c.specs.declared.held.Common.{Common}
 use Rattle.pool_c.specs.Closing.{AreKnown, AreOf, AreOne, AreWhole, HaveNumbers, members_of}
 use Rattle.pool_c.specs.Holding.{behind, Holding}
 use Rattle.pool_c.specs.Opening.{ArePut}
-use Rattle.pool_c.proofs.Places.{all_of, at_all, map_length, map_map, map_same, of_map, to_map}
+use Rattle.pool_c.proofs.Places.{all_of, at_all, map_map, map_same, of_map}
+use Rattle.pool_law.proofs.ListLemmas.{get-map}
 
 module _ (name threads : ℕ) (hs : List Holding) where
   abbrev Fits : Type 0
@@ -21,7 +23,7 @@ module _ (name threads : ℕ) (hs : List Holding) where
         all_of (λ (h : Holding). h.common.name ≡ name) hs (λ k h e.
         (fits k h (subst (λ n. k < n) many (slice_get_within hs k h e)) e).0);
     all = record {
-      many = map_length (λ (h : Holding). h.member) hs ∙ many;
+      many = length-map hs (λ (h : Holding). h.member) ∙ many;
       each = λ k m e.
           let h = of_map (λ (h : Holding). h.member) hs k m e in
           subst (λ (x : Member). x.account.lane ≡ k) (sym h.2)
@@ -33,7 +35,7 @@ module _ (name threads : ℕ) (hs : List Holding) where
       → (h.common.name ≡ name) × (h.member.account.lane ≡ k)
   their_number have k h e = (
     at_all (λ (x : Holding). x.common.name ≡ name) hs k h have.names e,
-    have.all.each k h.member (to_map (λ (x : Holding). x.member) hs k h e),
+    have.all.each k h.member (get-map (λ (x : Holding). x.member) hs k h e),
   )
 
 -- the threads of one name behind handles have one pool in common
@@ -52,7 +54,7 @@ one_pool threads (h ∷ hs) known put whole = record {
         → (t : PoolThread) × (slice_get threads k ≡ Some t) × (Some g ≡ t.slot.held)
     at_handle k g e =
         of_map (λ (t : PoolThread). t.slot.held) threads k (Some g)
-        (subst (λ xs. slice_get xs k ≡ Some (Some g)) (sym put.held) (to_map Some (h ∷ hs) k g e))
+        (subst (λ xs. slice_get xs k ≡ Some (Some g)) (sym put.held) (get-map Some (h ∷ hs) k g e))
 
 -- the members behind which the pool is
 pub members_back : (c : Common) (ms : List Member) (hs : List Holding) → map (behind c) ms ≡ hs → members_of hs ≡ ms

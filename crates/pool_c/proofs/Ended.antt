@@ -2,6 +2,7 @@
 use Rattle.std.proofs.Common.{◌≡◌, ◌⊎◌, ℕ, List, length, map, refl, sym, ap, ◌∙◌, subst}
 use Rattle.std.specs.Coded.{Coded-set, coded_ℕ}
 use Rattle.std.specs.Prelude.{Box, box_value}
+use Rattle.std.proofs.lemmas.List.{length-map}
 use Rattle.size_classes.specs.Sizes.{below, Geometry}
 use Rattle.pool_law.specs.Legal.{ends_from}
 use Rattle.pool_law.specs.Limits.{geometry_of}
@@ -19,7 +20,6 @@ use Rattle.pool_c.specs.Closing.{AreEmpty, HasEnded, HasEndedAs}
 use Rattle.pool_c.specs.Holding.{behind, Holding}
 use Rattle.pool_c.specs.Opening.{ArePut}
 use Rattle.pool_c.proofs.Closed.{all_have, members_back}
-use Rattle.pool_c.proofs.Places.{map_length}
 
 -- the end of the pool of these threads
 pub has_ended : (c : Common) (pool : SharedPool) (ms : List Member) (hs : List Holding) (chunks : ℕ)
@@ -94,4 +94,4 @@ back_again x y ms ns hs threads held put same is =
 -- there are as many as there were boxes
 pub as_many : {Z : Type 0} (c : Common) (ms : List Member) (all : List (Box Holding Z))
     → map (behind c) ms ≡ map box_value all → length ms ≡ length all
-as_many c ms all held = sym (map_length (behind c) ms) ∙ ap length held ∙ map_length box_value all
+as_many c ms all held = sym (length-map ms (behind c)) ∙ ap length held ∙ length-map all box_value

@@ -10,7 +10,8 @@ use Rattle.pool_c.specs.declared.held.Common.{Common}
 use Rattle.pool_c.specs.declared.handle.PoolThread.{PoolThread}
 use Rattle.pool_c.specs.Holding.{behind, Holding}
 use Rattle.pool_c.specs.Opening.{ArePut, HasNew}
-use Rattle.pool_c.proofs.Places.{at_all, of_map, to_map}
+use Rattle.pool_c.proofs.Places.{at_all, of_map}
+use Rattle.pool_law.proofs.ListLemmas.{get-map}
 
 abbrev pub held : PoolThread → Option Holding
 held t = t.slot.held
@@ -52,7 +53,7 @@ pub each_opened : (common : Common) (members : List Member) (threads : List Pool
     → HasNew common k t
 each_opened common members threads put are new k t there =
     let e : slice_get (map Some (map (behind common) members)) k ≡ Some (held t) =
-    subst (λ hs. slice_get hs k ≡ Some (held t)) put.held (to_map held threads k t there) in
+    subst (λ hs. slice_get hs k ≡ Some (held t)) put.held (get-map held threads k t there) in
     let h = of_map Some (map (behind common) members) k (held t) e in
     let m = of_map (behind common) members k h.0 h.1 in
     record {

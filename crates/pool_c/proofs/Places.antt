@@ -1,6 +1,6 @@
 -- What is at a place of a list.
 use Rattle.std.proofs.Common.{◌≡◌, ◌⊎◌, ℕ, zero, suc, ◌+◌, ◌<◌, ◌≤◌, List, [], ◌∷◌, length, map, Some, refl, sym, ap, ◌∙◌, subst, arith}
-use Rattle.std.specs.Prelude.{All, option_map, slice_get, slice_index_or}
+use Rattle.std.specs.Prelude.{All, slice_get, slice_index_or}
 use Rattle.std.proofs.lemmas.Bool.{cases_lt}
 use Rattle.std.proofs.lemmas.Option.{get_or_from_slice_get, slice_get_within}
 use mathlib.Core.Logic.{inl, inr}
@@ -14,12 +14,6 @@ all_of P (y ∷ ys) at (suc k) d lt = all_of P ys (λ j x e. at (suc j) x e) k d
 
 pub at_all : {X : Type 0} (P : X → Type 0) (xs : List X) (k : ℕ) (x : X) → All P xs → slice_get xs k ≡ Some x → P x
 at_all P xs k x all at = subst P (get_or_from_slice_get xs k x x at) (all k x (slice_get_within xs k x at))
-
-pub to_map : {X Y : Type 0} (f : X → Y) (xs : List X) (k : ℕ) (x : X) → slice_get xs k ≡ Some x
-    → slice_get (map f xs) k ≡ Some (f x)
-to_map f [] k x at = absurd (cc at)
-to_map f (y ∷ ys) zero x at = ap (option_map f) at
-to_map f (y ∷ ys) (suc k) x at = to_map f ys k x at
 
 pub of_map : {X Y : Type 0} (f : X → Y) (xs : List X) (k : ℕ) (y : Y) → slice_get (map f xs) k ≡ Some y
     → (x : X) × (slice_get xs k ≡ Some x) × (y ≡ f x)
@@ -48,7 +42,3 @@ up_to {X} P xs n x there is below k y lt at = go (cases_lt k n)
         let e : n ≡ k = omega (arith, past, lt) in
         subst (λ j. P j y) e
         (subst (P n) (some_same x y (sym there ∙ subst (λ j. slice_get xs j ≡ Some y) (sym e) at)) is)
-
-pub map_length : {X Y : Type 0} (f : X → Y) (xs : List X) → length (map f xs) ≡ length xs
-map_length f [] = refl
-map_length f (x ∷ xs) = ap suc (map_length f xs)

@@ -1,27 +1,27 @@
 -- The roots that a seat alone has, behind steps of its own.
-use Rattle.std.proofs.Common.{◌≡◌, ◌≢◌, ◌⊎◌, ℕ, ◌+◌, Bool, true, false, cond, List, [], ◌∷◌, ◌++◌, replicate, Option, Some, None, inl, inr, refl, sym, ap, ◌∙◌, ⊎_elim, arith, append-nil, append_assoc}
-use Rattle.std.specs.Prelude.{◌==◌, ◌&&◌, ◌||◌, if◌then◌else◌, sum_by, fold}
+use Rattle.std.proofs.Common.{◌≡◌, ◌≢◌, ◌⊎◌, ℕ, ◌+◌, Bool, true, false, cond, List, [], ◌∷◌, ◌++◌, replicate, Option, Some, None, refl, sym, ap, ◌∙◌, ⊎_elim, arith, append-nil, append_assoc}
+use Rattle.std.specs.Prelude.{◌==◌, ◌&&◌, if◌then◌else◌, sum_by, fold}
 use Rattle.std.specs.List.{list_all}
-use Rattle.std.proofs.lemmas.Bool.{and_parts}
+use Rattle.std.proofs.lemmas.Bool.{and_parts, or_cases}
 use Rattle.std.proofs.lemmas.List.{replicate-append-replicate}
 use Rattle.std.proofs.lemmas.List.Sums.{fold-append, sum_by-append, sum_by-cons}
-use Rattle.history_laws.proofs.Names.{same_root-or}
 use Rattle.history_laws.specs.NoteCounts.{did_birth_as, did_post_of}
 use Rattle.pool_law.specs.declared.id.RootId.{RootId}
 use Rattle.pool_law.specs.declared.note.Did.{Did}
 use Rattle.pool_law.specs.declared.note.Did.TheVariants.{Birth, Set, Extend, Grow, Post, Room}
 use Rattle.pool_law.specs.Counts.{root_is}
 use Rattle.pool_law.specs.Roots.{zeros_to}
-use Rattle.pool_law.specs.Same.{same_root}
 use Rattle.pool_table.specs.Counts.{posts}
 use Rattle.pool_table.specs.Lone.{births, laid_by, laid_in, own_bytes, IsLone}
 use Rattle.pool_table.specs.declared.views.Entry.{Entry}
 use Rattle.pool_table.specs.declared.views.Entry.TheVariants.{At, Busy, Ref}
+use Rattle.pool_table.proofs.Capacities.{told_root}
 use Rattle.shared_pool.specs.declared.pool.SharedPool.{SharedPool}
 use Rattle.shared_pool.specs.declared.seat.PoolSeat.{PoolSeat}
 use Rattle.shared_pool.specs.SeatViews.{view_of}
 use Rattle.seat_work.specs.Growth.{is_ask, is_quiet, is_quiet_but, is_quiet_entry}
 use Rattle.seat_work.specs.Works.{IsLater, IsLaterBut, IsLaterBy}
+use Rattle.seat_work.proofs.Later.{quiet_note_posts}
 use Rattle.pool_member.specs.declared.member.Member.{Member}
 use Rattle.pool_member.specs.Alone.{GrowsAlone, KeepsAlone}
 use Rattle.pool_member.proofs.Alone.{apart, not_none, Stays}
@@ -68,27 +68,11 @@ module _ (r : RootId) (on : Option RootId) (bytes : List ℕ) where
   ask_lays (Set offset more) asks = absurd (cc asks)
   ask_lays d asks = (0, sym (append-nil bytes))
 
-quiet_posts : (r : RootId) (d : Did) → is_quiet d ≡ true → did_post_of r d ≡ 0
-quiet_posts r (Post parcel) quiet = absurd (cc quiet)
-quiet_posts r d quiet = refl
-
 ask_posts : (r : RootId) (d : Did) → is_ask d ≡ true → did_post_of r d ≡ 0
 ask_posts r (Post parcel) asks = absurd (cc asks)
 ask_posts r d asks = refl
 
 -- ---- What an entry lays that is quiet, or asks a root.
-
-one_of : (a b : Bool) → (a || b) ≡ true → (a ≡ true) ⊎ (b ≡ true)
-one_of true b is = inl refl
-one_of false b is = inr is
-
--- the root of an ask
-asks_it : (root : RootId) (o : Option RootId) → root_is root o ≡ true → o ≡ Some root
-asks_it root None is = absurd (cc is)
-asks_it root (Some q) is = ⊎_elim
-    (λ t. ap (λ (x : RootId). Some x) t.1)
-    (λ (differs : same_root q root ≡ false). absurd (cc (sym is ∙ differs)))
-    (same_root-or q root)
 
 module _ (r : RootId) (bytes : List ℕ) where
   quiet_entry : (e : Entry) → is_quiet_entry e ≡ true → births r e ≡ 0 → laid_in r bytes e ≡ bytes
@@ -106,8 +90,8 @@ module _ (r : RootId) (bytes : List ℕ) where
         (λ (a : (is_ask n.did && root_is root n.root) ≡ true).
         (let both = and_parts (is_ask n.did) (root_is root n.root) a in
         other_lays r n.root bytes n.did both.0
-        (ap (root_is r) (asks_it root n.root both.1) ∙ apart root r ne)))
-        (one_of (is_quiet n.did) (is_ask n.did && root_is root n.root) quiet)
+        (ap (root_is r) (told_root root n.root both.1) ∙ apart root r ne)))
+        (or_cases (is_quiet n.did) (is_ask n.did && root_is root n.root) quiet)
 
     asked_entry : (e : Entry) → is_quiet_but root e ≡ true → births r e ≡ 0
         → (more : ℕ) × (laid_in r bytes e ≡ bytes ++ replicate more 0)
@@ -117,12 +101,12 @@ module _ (r : RootId) (bytes : List ℕ) where
         (λ (q : is_quiet n.did ≡ true). (0, quiet_lays r n.root bytes n.did q none ∙ sym (append-nil bytes)))
         (λ (a : (is_ask n.did && root_is root n.root) ≡ true).
         ask_lays r n.root bytes n.did (and_parts (is_ask n.did) (root_is root n.root) a).0)
-        (one_of (is_quiet n.did) (is_ask n.did && root_is root n.root) quiet)
+        (or_cases (is_quiet n.did) (is_ask n.did && root_is root n.root) quiet)
 
 -- none of them posts
 module _ (r : RootId) where
   quiet_none : (e : Entry) → is_quiet_entry e ≡ true → posts r e ≡ 0
-  quiet_none (At o k n) quiet = quiet_posts r n.did quiet
+  quiet_none (At o k n) quiet = quiet_note_posts r n.did quiet
   quiet_none (Ref q d) quiet = refl
   quiet_none (Busy held) quiet = refl
 
@@ -130,10 +114,10 @@ module _ (r : RootId) where
   asked_none root (Ref q d) quiet = refl
   asked_none root (Busy held) quiet = refl
   asked_none root (At o k n) quiet = ⊎_elim
-      (λ (q : is_quiet n.did ≡ true). quiet_posts r n.did q)
+      (λ (q : is_quiet n.did ≡ true). quiet_note_posts r n.did q)
       (λ (a : (is_ask n.did && root_is root n.root) ≡ true).
       ask_posts r n.did (and_parts (is_ask n.did) (root_is root n.root) a).0)
-      (one_of (is_quiet n.did) (is_ask n.did && root_is root n.root) quiet)
+      (or_cases (is_quiet n.did) (is_ask n.did && root_is root n.root) quiet)
 
 -- ---- Entries one after the other.
 

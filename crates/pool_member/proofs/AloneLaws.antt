@@ -1,7 +1,7 @@
 -- What is kept of the roots that a thread alone has, once what is kept at a place has changed.
 use Rattle.std.proofs.Common.{◌≡◌, ◌≢◌, ◌⊎◌, ℕ, zero, suc, ◌<◌, Bool, true, false, List, [], ◌∷◌, inl, inr, sym, ap, ◌∙◌, ⊎_elim, arith, Some}
 use Rattle.std.specs.Prelude.{◌&&◌, slice_get, slice_set, All}
-use Rattle.std.proofs.lemmas.Bool.{cases_eq}
+use Rattle.std.proofs.lemmas.Bool.{cases_eq, and_right}
 use Rattle.history_laws.proofs.Names.{same_root-or}
 use Rattle.pool_law.specs.declared.id.RootId.{RootId}
 use Rattle.pool_law.specs.Same.{same_root}
@@ -10,10 +10,6 @@ use Rattle.pool_law.proofs.PatternLemmas.{same_root-refl}
 use Rattle.pool_member.specs.declared.counts.Counted.{Counted}
 use Rattle.pool_member.specs.Counting.{counted, if_alone, is_alone}
 
-and_false : (a b : Bool) → b ≡ false → (a && b) ≡ false
-and_false true b none = none
-and_false false b none = λ i. false
-
 and_true : (a b : Bool) → (a && b) ≡ true → (a && true) ≡ true
 and_true true b is = λ i. true
 and_true false b is = is
@@ -21,7 +17,7 @@ and_true false b is = is
 none_at : (cs : List Counted) (n : ℕ) (root : RootId) → All (λ c. c.alone ≡ false) cs
     → if_alone (slice_get cs n) root ≡ false
 none_at [] n root all = λ i. false
-none_at (c ∷ cs) zero root all = and_false (same_root c.root root) c.alone (all 0 c (omega arith))
+none_at (c ∷ cs) zero root all = and_right (same_root c.root root) c.alone (all 0 c (omega arith))
 none_at (c ∷ cs) (suc n) root all = none_at cs n root (λ k d lt. all (suc k) d (omega arith))
 
 pub none_alone : (cs : List Counted) → All (λ c. c.alone ≡ false) cs → (root : RootId) → is_alone cs root ≡ false
@@ -55,7 +51,7 @@ module _ (cs : List Counted) (root : RootId) (c : Counted) (at : slice_get cs ro
       → is_alone (slice_set cs root.place x) other ≡ true → is_alone cs other ≡ true
   alone_less x none other is = ⊎_elim
       (λ (e : other.place ≡ root.place).
-      (let gone = alone_there x other e ∙ and_false (same_root x.root other) x.alone none in
+      (let gone = alone_there x other e ∙ and_right (same_root x.root other) x.alone none in
       absurd (cc (sym is ∙ gone))))
       (λ (ne : other.place ≢ root.place). sym (alone_else x other ne) ∙ is)
       (cases_eq other.place root.place)
@@ -83,7 +79,7 @@ module _ (cs : List Counted) (root : RootId) (c : Counted) (at : slice_get cs ro
       (cases_eq other.place root.place)
 
   pub alone_gone : (x : Counted) → x.alone ≡ false → is_alone (slice_set cs root.place x) root ≡ false
-  alone_gone x none = alone_there x root (λ i. root.place) ∙ and_false (same_root x.root root) x.alone none
+  alone_gone x none = alone_there x root (λ i. root.place) ∙ and_right (same_root x.root root) x.alone none
 
   -- it is kept of this root
   pub alone_own : (x : Counted) → x.root ≡ root → (other : RootId)

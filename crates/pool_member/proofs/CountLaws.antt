@@ -1,27 +1,15 @@
 -- What a lane counts, where it counts nothing, and once the count at a place has changed.
-use Rattle.std.proofs.Common.{◌≡◌, ◌≢◌, ℕ, zero, suc, ◌+◌, ◌<◌, Bool, true, false, List, [], ◌∷◌, length, refl, sym, ap, ◌∙◌, subst, ⊎_elim, arith, Some, ne_eqb}
-use Rattle.std.specs.Prelude.{◌==◌, if◌then◌else◌, slice_get, slice_set, All}
-use Rattle.std.proofs.lemmas.Bool.{cases_eq, cases_Bool, both_ways, and_left}
+use Rattle.std.proofs.Common.{◌≡◌, ◌≢◌, ℕ, zero, suc, ◌+◌, ◌<◌, Bool, true, false, List, [], ◌∷◌, length, refl, sym, ap, ◌∙◌, subst, ⊎_elim, arith, Some}
+use Rattle.std.specs.Prelude.{if◌then◌else◌, slice_get, slice_set}
+use Rattle.std.proofs.lemmas.Bool.{cases_eq, cases_Bool}
 use Rattle.pool_law.specs.declared.id.RootId.{RootId}
 use Rattle.pool_law.specs.Same.{same_root}
 use Rattle.pool_law.proofs.ListLemmas.{slice_get-set_same, slice_get-set_other, slice_get-below}
 use Rattle.pool_law.proofs.SameLemmas.{same_root-is}
-use Rattle.pool_law.proofs.PatternLemmas.{same_root-refl}
 use Rattle.pool_member.specs.declared.counts.Counted.{Counted}
 use Rattle.seat_work.specs.Changes.{one_for}
+use Rattle.seat_work.proofs.Counting.{other_place, other_root}
 use Rattle.pool_member.specs.Counting.{if_counted, counted}
-
-pub zero_if : (b : Bool) (n : ℕ) → n ≡ 0 → (if b then n else 0) ≡ 0
-zero_if true n e = e
-zero_if false n e = refl
-
-none_at : (cs : List Counted) (n : ℕ) (root : RootId) → All (λ c. c.count ≡ 0) cs → if_counted (slice_get cs n) root ≡ 0
-none_at [] n root all = refl
-none_at (c ∷ cs) zero root all = zero_if (same_root c.root root) c.count (all 0 c (omega arith))
-none_at (c ∷ cs) (suc n) root all = none_at cs n root (λ k d lt. all (suc k) d (omega arith))
-
-pub none_counted : (cs : List Counted) → All (λ c. c.count ≡ 0) cs → (root : RootId) → counted cs root ≡ 0
-none_counted cs all root = none_at cs root.place root all
 
 -- the place of a root that is counted is there
 within_by : (cs : List Counted) (n : ℕ) (root : RootId) → 0 < if_counted (slice_get cs n) root → n < length cs
@@ -31,14 +19,6 @@ within_by (c ∷ cs) (suc n) root lt = let ih : n < length cs = within_by cs n r
 
 pub counted_within : (cs : List Counted) (root : RootId) → 0 < counted cs root → root.place < length cs
 counted_within cs root lt = within_by cs root.place root lt
-
--- of two roots at different places at most one is this one
-pub other_place : (root other : RootId) → other.place ≢ root.place → same_root root other ≡ false
-other_place root other ne = and_left (root.place == other.place) _ (ne_eqb root.place other.place (λ e. ne (sym e)))
-
-pub other_root : (root other : RootId) → same_root root other ≡ false → other ≢ root
-other_root root other differs e =
-    both_ways (same_root root other) differs (subst (λ r. same_root root r ≡ true) (sym e) (same_root-refl root))
 
 module _ (cs : List Counted) (root : RootId) (c : Counted) (at : slice_get cs root.place ≡ Some c) where
   within : root.place < length cs

@@ -15,7 +15,6 @@ use Rattle.shared_pool.specs.declared.pool.SharedPool.{SharedPool}
 use Rattle.shared_pool.specs.declared.seat.PoolSeat.{PoolSeat}
 use Rattle.shared_pool.specs.SeatViews.{view_of}
 use Rattle.shared_pool.specs.Seats.{IsPoolSeat}
-use Rattle.pool_law.proofs.PatternLemmas.{same_root-refl}
 use Rattle.pool_law.proofs.SameLemmas.{same_root-is}
 use Rattle.pool_law.specs.Same.{same_root}
 use Rattle.seat_work.specs.Changes.{Change, Changes, one_for, times}
@@ -61,13 +60,7 @@ not_gone root other none = ⊎_elim
     (λ (f : same_root root other ≡ false). f)
     (cases_Bool (same_root root other))
 
-pub one_self : (root : RootId) → one_for root root ≡ 1
-one_self root = ap (λ (b : Bool). if b then 1 else 0) (same_root-refl root)
-
 -- what was told of a root is no more than a view knows, where that is so of what was told last
-pub told_self : (root : RootId) (n : ℕ) → (if same_root root root then n else 0) ≡ n
-told_self root n = ap (λ (b : Bool). if b then n else 0) (same_root-refl root)
-
 pub tell_known : (v : SeatView) (root other : RootId) (capacity a b : ℕ)
     → b ≡ max a (if same_root root other then capacity else 0) → a ≤ knows_of other v → capacity ≤ knows_of root v
     → b ≤ knows_of other v

@@ -21,14 +21,10 @@ use Rattle.shared_pool.specs.SeatViews.{HasView, view_of}
 use Rattle.shared_pool.specs.Seats.{IsNoted}
 use Rattle.seat_work.specs.Growth.{is_ask, is_quiet, is_quiet_but, is_quiet_entry}
 use Rattle.seat_work.specs.Works.{IsLater, IsLaterBut}
-
-stays : (d : Did) → is_quiet d ≡ true → passing d ≡ Stays
-stays (Post parcel) quiet = absurd (cc quiet)
-stays (Fetch parcel) quiet = absurd (cc quiet)
-stays d quiet = refl
+use Rattle.seat_work.proofs.Later.{quiet_note_stays}
 
 quiet_entry : (e : Entry) → is_quiet_entry e ≡ true → IsQuiet e
-quiet_entry (At o k n) quiet = quiet_stays o k n (stays n.did quiet)
+quiet_entry (At o k n) quiet = quiet_stays o k n (quiet_note_stays n.did quiet)
 quiet_entry (Ref r d) quiet = quiet_ref r d
 quiet_entry (Busy held) quiet = quiet_busy held
 

@@ -1,7 +1,7 @@
 -- A thread that parted with a root, and one that accepted one.
 use Rattle.std.proofs.Common.{◌≡◌, ◌≢◌, ℕ, ◌+◌, ◌^◌, ◌<◌, ◌≤◌, true, List, [], ◌∷◌, ◌++◌, length, Option, Some, None, refl, sym, ap, ◌∙◌, subst, ⊎_elim, arith, eqb-true}
-use Rattle.std.specs.Prelude.{slice_get, slice_set, unwrap_or, cond, ◌==◌, ◌&&◌}
-use Rattle.std.proofs.lemmas.Bool.{cases_eq, ne_eqb}
+use Rattle.std.specs.Prelude.{slice_get, slice_set, unwrap_or}
+use Rattle.std.proofs.lemmas.Bool.{cases_eq}
 use Rattle.std.proofs.lemmas.List.Sums.{sum_by_push}
 use Rattle.pool_law.proofs.ListLemmas.{slice_get-set_same, slice_get-set_other, slice_get-below}
 use Rattle.pool_law.specs.declared.id.Parcel.{Parcel}
@@ -9,7 +9,7 @@ use Rattle.pool_table.specs.declared.views.Entry.{Entry}
 use Rattle.pool_table.specs.declared.views.Letter.{Letter}
 use Rattle.pool_table.specs.Letters as letters
 use Rattle.pool_table.specs.Letters.{is_on_way, received_as, received_on, sent_as, sent_on}
-use Rattle.shared_pool.proofs.MailWays.{fetch_entry, fetched_here, post_entry}
+use Rattle.shared_pool.proofs.MailWays.{fetch_entry, fetched_here, post_entry, other_from}
 use Rattle.shared_pool.specs.declared.pool.SharedPool.{SharedPool}
 use Rattle.shared_pool.specs.declared.seat.PoolSeat.{PoolSeat}
 use Rattle.shared_pool.specs.MailAnswers.{HasOwnChannel, IsFetched, IsPosted}
@@ -19,10 +19,6 @@ use Rattle.seat_work.specs.HandOvers.{Sends}
 use Rattle.pool_member.specs.declared.member.Member.{Member}
 use Rattle.pool_member.specs.Refusals.{MayAccept, is_next}
 use Rattle.pool_member.specs.Threads.{HasOwnChannels, IsThread}
-
--- a letter that is received is of no other way, and none that is sent
-other_from : (a b c : ℕ) → a ≢ c → cond {A = ℕ} ((a == c) && (b == b)) 1 0 ≡ 0
-other_from a b c apart = λ i. cond {A = ℕ} (ne_eqb a c apart i && (b == b)) 1 0
 
 module _ (from to number : ℕ) (lane : Option ℕ) (parcel : Parcel) (es : List Entry) where
   fetched_else : (other : ℕ) → from ≢ other

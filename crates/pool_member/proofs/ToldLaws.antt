@@ -9,7 +9,8 @@ use Rattle.pool_law.proofs.ListLemmas.{slice_get-set_same, slice_get-set_other, 
 use Rattle.pool_law.proofs.SameLemmas.{same_root-is}
 use Rattle.pool_member.specs.declared.counts.Counted.{Counted}
 use Rattle.pool_member.specs.Counting.{counted, if_counted, if_told, told}
-use Rattle.pool_member.proofs.CountLaws.{other_place, written, zero_if}
+use Rattle.pool_member.proofs.CountLaws.{written}
+use Rattle.seat_work.proofs.Counting.{other_place, zero_if}
 
 -- orders of what is equal to other things
 pub same_least : (a b : ℕ) → a ≡ b → a ≤ b

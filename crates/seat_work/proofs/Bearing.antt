@@ -14,8 +14,9 @@ use Rattle.pool_law.specs.declared.note.RefDid.TheVariants.{Born}
 use Rattle.pool_law.specs.declared.report.Watch.{Watch}
 use Rattle.pool_law.specs.Naming.{noted_by}
 use Rattle.pool_law.specs.Same.{same_root}
+use Rattle.pool_law.proofs.PatternLemmas.{same_root-refl}
 use Rattle.history_laws.specs.NoteCounts.{did_birth_as, one_if_so}
-use Rattle.history_laws.proofs.Names.{same_root-or, same_root-refl}
+use Rattle.history_laws.proofs.Names.{same_root-or}
 use Rattle.pool_table.specs.declared.views.Entry.{Entry}
 use Rattle.pool_table.specs.declared.views.Entry.TheVariants.{At, Ref}
 use Rattle.pool_table.specs.declared.views.SeatView.{SeatView}

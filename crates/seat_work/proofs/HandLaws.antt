@@ -11,7 +11,8 @@ use Rattle.pool_table.specs.declared.views.Entry.TheVariants.{At, Ref, Busy}
 use Rattle.pool_table.specs.declared.views.SeatView.{SeatView}
 use Rattle.pool_table.specs.Counts.{weigh, on_this, on_place, ref_born, ref_ended, ref_vacated}
 use Rattle.pool_table.specs.Hands.{at_in, at_out, at_birth, ends, from_arena, to_arena, from_cache, to_cache, from_place, to_place}
-use Rattle.shared_pool.specs.Quotas.{quota_after, quota_from, quota_left, has_closed, is_close}
+use Rattle.shared_pool.specs.Quotas.{quota_from, quota_left, has_closed, is_close}
+use Rattle.shared_pool.proofs.Keeps.{quota_append}
 use Rattle.seat_work.specs.Hands.{lane_in, Hand, IsHeld, is_place, is_token, held_weight}
 use Rattle.seat_work.proofs.Grown.{Grows, weigh_more}
 
@@ -43,15 +44,6 @@ pub record Carries (lane : ℕ) (before after : Hand) (es : List Entry) : Type 0
   pub quotas : (class : ℕ) → quota_from lane class (quota_of before class) es ≡ quota_of after class
   pub closes : (class : ℕ) → (if has_closed lane class es then true else nat_lt class before.closed)
       ≡ nat_lt class after.closed
-
--- a quota over two lists of entries
-quota_append : (lane class quota : ℕ) (xs ys : List Entry)
-    → quota_from lane class quota (xs ++ ys) ≡ quota_from lane class (quota_from lane class quota xs) ys
-quota_append lane class quota [] ys = refl
-quota_append lane class quota (At o k n ∷ xs) ys =
-    quota_append lane class (if same_object o (Cache lane class) then quota_after quota n.did else quota) xs ys
-quota_append lane class quota (Ref r d ∷ xs) ys = quota_append lane class quota xs ys
-quota_append lane class quota (Busy b ∷ xs) ys = quota_append lane class quota xs ys
 
 either : (b : Bool) → b ≡ (if b then true else false)
 either true = refl

@@ -8,6 +8,8 @@ use Rattle.pool_arena.specs.Standing.{taken_or_full}
 use Rattle.pool_law.specs.declared.id.Region.{Region}
 use Rattle.pool_law.specs.declared.id.RegionId.{RegionId}
 use Rattle.pool_law.specs.declared.id.RootId.{RootId}
+use Rattle.pool_law.specs.declared.note.Did.{Did}
+use Rattle.pool_law.specs.declared.note.Did.TheVariants.{Post, Fetch}
 use Rattle.pool_law.specs.declared.note.Held.{Held}
 use Rattle.pool_law.specs.declared.note.Noted.{Noted}
 use Rattle.pool_law.specs.declared.note.Object.{Object}
@@ -17,7 +19,9 @@ use Rattle.pool_law.specs.declared.note.RefDid.TheVariants.{Born}
 use Rattle.pool_law.specs.declared.report.Watch.{Watch}
 use Rattle.shared_pool.specs.declared.seat.PoolSeat.{PoolSeat}
 use Rattle.pool_law.specs.Counts.{root_is}
+use Rattle.pool_law.specs.Kinds.{Stays, passing}
 use Rattle.pool_law.specs.Naming.{noted_by}
+use Rattle.history_laws.specs.NoteCounts.{did_post_of}
 use Rattle.pool_table.specs.declared.views.Entry.{Entry}
 use Rattle.pool_table.specs.declared.views.Entry.TheVariants.{Ref, Busy}
 use Rattle.pool_table.specs.declared.views.SeatView.{SeatView}
@@ -82,6 +86,16 @@ quiet_on is_so (e ∷ xs) ys x y = go (is_so e) x (λ rest. quiet_on is_so xs ys
 pub or_last : (a : Bool) → ((a || true) && true) ≡ true
 or_last true = refl
 or_last false = refl
+
+-- what was done quietly passes nothing, so that it posts no root
+pub quiet_note_stays : (d : Did) → is_quiet d ≡ true → passing d ≡ Stays
+quiet_note_stays (Post parcel) quiet = absurd (cc quiet)
+quiet_note_stays (Fetch parcel) quiet = absurd (cc quiet)
+quiet_note_stays d quiet = refl
+
+pub quiet_note_posts : (root : RootId) (d : Did) → is_quiet d ≡ true → did_post_of root d ≡ 0
+quiet_note_posts root (Post parcel) quiet = absurd (cc quiet)
+quiet_note_posts root d quiet = refl
 
 -- quiet entries are quiet but for a root
 pub quiet_too : (root : RootId) (es : List Entry) → list_all is_quiet_entry es ≡ true

@@ -55,7 +55,7 @@ asks_grown root size into (grown.Extended r) = asked_so root
 asks_grown root size into (grown.Replaced r) = asked_so root
 
 -- a number that is told where a root is this one
-told_so : (root : RootId) (c : ℕ) → (if same_root root root then c else 0) ≡ c
+pub told_so : (root : RootId) (c : ℕ) → (if same_root root root then c else 0) ≡ c
 told_so root c = ap (λ (b : Bool). if b then c else 0) (same_root-refl root)
 
 module _ (root : RootId) (number : ℕ) (lane : Option ℕ) (size : ℕ) where

@@ -2,18 +2,20 @@ use Rattle.std.proofs.Common.{◌≡◌, ◌<◌, length, map, refl, sym, ap, �
 use Rattle.std.proofs.lemmas.Bool.{false≢true}
 use Rattle.std.proofs.lemmas.Option.{slice_get_read}
 use Rattle.std.specs.Prelude.{box_value}
+use Rattle.std.proofs.lemmas.List.{length-map}
 use Rattle.pool_c.specs.declared.held.Common.{Common}
 use Rattle.pool_c.specs.Holding.{Holding}
 use Rattle.pool_c.proofs.Closed.{have_numbers, their_number}
-use Rattle.pool_c.proofs.Places.{map_length, to_map, up_to}
+use Rattle.pool_c.proofs.Places.{up_to}
 use Rattle.pool_c.proofs.closing.are_all.Goals as goal
 use Rattle.pool_c.proofs.closing.are_all.Goals.{then-deref-name-via-then-deref-name, then-deref-name-via-else-deref-name+then-deref-number}
+use Rattle.pool_law.proofs.ListLemmas.{get-map}
 
 pub returns-then-deref-name : goal.returns-then-deref-name
 returns-then-deref-name c =
     let inv = c.loop-number.invariant in let at = c.loop-number.number in let all = c.args.all.now in
     let b = c.index-all-number.result in let lt : at < length all = omega (arith, inv.many, c.loop-number-test.true) in
-    let there = to_map box_value all at b (slice_get_read all (length all) at b refl lt c.index-all-number.is) in
+    let there = get-map box_value all at b (slice_get_read all (length all) at b refl lt c.index-all-number.is) in
     let common = c.deref-in-loop-number.ensures
     ∙ ap (λ (h : Holding). h.common) (c.behind-held.view_is ∙ c.deref.ensures) in (
       λ e. absurd (false≢true e),
@@ -33,7 +35,7 @@ pub loop-number-preserved : goal.loop-number-preserved
 loop-number-preserved c =
     let inv = c.loop-number.invariant in let at = c.loop-number.number in let all = c.args.all.now in
     let b = c.index-all-number.result in let lt : at < length all = omega (arith, inv.many, c.loop-number-test.true) in
-    let there = to_map box_value all at b (slice_get_read all (length all) at b refl lt c.index-all-number.is) in
+    let there = get-map box_value all at b (slice_get_read all (length all) at b refl lt c.index-all-number.is) in
     let common = c.deref-in-loop-number.ensures
     ∙ ap (λ (h : Holding). h.common) (c.behind-held.view_is ∙ c.deref.ensures) in
     let lane = ap (λ (h : Holding). h.member.account.lane)
@@ -51,7 +53,7 @@ loop-number-preserved c =
 pub returns : goal.returns
 returns c =
     let inv = c.loop-number.invariant in let all = c.args.all.now in (
-      λ e. have_numbers c.args.name c.args.threads (map box_value all) (map_length box_value all ∙ inv.many)
+      λ e. have_numbers c.args.name c.args.threads (map box_value all) (length-map all box_value ∙ inv.many)
           (λ k h lt at. inv.each k h (omega (arith, lt, c.loop-number-test.false)) at),
       λ have. refl,
     )

@@ -24,7 +24,7 @@ use Rattle.std.proofs.raw_atomic.Walks.{proved_at, leaves}
 use Rattle.std.proofs.alloc.Global.TheLaws as heap_laws
 use Rattle.std.specs.contracts.alloc.Global as heap
 use Rattle.std.specs.contracts.impls.GlobalAllocator.TheImpl.{ghosts}
-use Rattle.pool_c.proofs.ParcelSlotValues.{word, told, some_of}
+use Rattle.pool_c.proofs.ParcelSlotValues.{told}
 use Rattle.pool_c.proofs.Values.{both, al, loose_good, loose_in}
 use Rattle.pool_c.specs.ParcelSlots.{slot_owns}
 use Rattle.pool_c.specs.contracts.carried.Carried as inner
@@ -33,6 +33,7 @@ use Rattle.pool_c.specs.contracts.parcel_slot.ParcelSlot.into_loose.{ended, clau
 use Rattle.pool_c.specs.contracts.parcel_slot.ParcelSlot.into_loose.Key.{name as #self}
 use Rattle.pool_c.proofs.parcel_slot.ParcelSlot.into_loose.Statement.{statement}
 use Rattle.pool_c.proofs.parcel_slot.ParcelSlot.into_loose.Code as code
+use Rattle.pool_c.proofs.SlotValues.{word, some_of}
 
 pub into_loose_spec : {M : Type 1} → statement M
 into_loose_spec 𝓤 𝓛 𝓜 𝓡 wired =

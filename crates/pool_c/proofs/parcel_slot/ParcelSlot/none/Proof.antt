@@ -16,12 +16,13 @@ use denote.Steps.{nothing}
 use denote.Triple.Entry.{alive}
 use denote.Triple.Walked.{Stays, walk_of}
 use Rattle.std.proofs.raw_atomic.Walks.{proved_at, leaves}
-use Rattle.pool_c.proofs.ParcelSlotValues.{word, Data, made}
+use Rattle.pool_c.proofs.ParcelSlotValues.{Data, made}
 use Rattle.pool_c.specs.contracts.parcel_slot.ParcelSlot as slot
 use Rattle.pool_c.specs.contracts.parcel_slot.ParcelSlot.none.{ended, clauses}
 use Rattle.pool_c.specs.contracts.parcel_slot.ParcelSlot.none.Key.{name as #self}
 use Rattle.pool_c.proofs.parcel_slot.ParcelSlot.none.Statement.{statement}
 use Rattle.pool_c.proofs.parcel_slot.ParcelSlot.none.Code as code
+use Rattle.pool_c.proofs.SlotValues.{word}
 
 pub none_spec : {M : Type 1} → statement M
 none_spec 𝓤 𝓛 𝓜 𝓡 wired =

@@ -20,7 +20,7 @@ use Rattle.std.proofs.raw_atomic.Walks.{proved_at, leaves}
 use Rattle.std.proofs.alloc.Global.TheLaws as heap_laws
 use Rattle.std.specs.contracts.alloc.Global as heap
 use Rattle.std.specs.contracts.impls.GlobalAllocator.TheImpl.{ghosts}
-use Rattle.pool_c.proofs.ParcelSlotValues.{word, Data, made}
+use Rattle.pool_c.proofs.ParcelSlotValues.{Data, made}
 use Rattle.pool_c.proofs.Values.{both, Loose, loose_good, loose_out}
 use Rattle.pool_c.specs.contracts.carried.Carried as inner
 use Rattle.pool_c.specs.contracts.parcel_slot.ParcelSlot as slot
@@ -28,6 +28,7 @@ use Rattle.pool_c.specs.contracts.parcel_slot.ParcelSlot.of.{ended, clauses}
 use Rattle.pool_c.specs.contracts.parcel_slot.ParcelSlot.of.Key.{name as #self}
 use Rattle.pool_c.proofs.parcel_slot.ParcelSlot.of.Statement.{statement}
 use Rattle.pool_c.proofs.parcel_slot.ParcelSlot.of.Code as code
+use Rattle.pool_c.proofs.SlotValues.{word}
 
 pub of_spec : {M : Type 1} → statement M
 of_spec 𝓤 𝓛 𝓜 𝓡 wired =

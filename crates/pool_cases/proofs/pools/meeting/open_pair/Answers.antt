@@ -1,7 +1,7 @@
 use Rattle.shared_pool.specs.Opening.{IsOpened}
 use Rattle.pool_cases.specs.declared.pools.meeting.TheConstants.{LAYOUT}
-use Rattle.shared_pool.proofs.Trials.{two_last}
 use Rattle.pool_cases.proofs.pools.meeting.open_pair.Goals as goal
+use Rattle.pool_table.proofs.Lists.{two_last}
 
 pub returns-clause-first : goal.returns-clause-first
 returns-clause-first c = let s = c.in_ok-pool.ensures.seats in

@@ -2,9 +2,10 @@ use Rattle.std.proofs.Common.{◌-◌, None, refl, arith}
 use Rattle.seat_work.specs.Answers.{refused}
 use Rattle.seat_work.specs.Changes.{once_more}
 use Rattle.seat_work.proofs.Later.{born_on}
+use Rattle.seat_work.proofs.Counting.{one_self}
 use Rattle.pool_member.specs.declared.member.Member.{Member}
 use Rattle.pool_member.proofs.AloneLater.{stays_later}
-use Rattle.pool_member.proofs.Keeping.{alone_at, few_of, may_begin, one_self, settled_on, spends_more, spends_none, tells_settled, times_one}
+use Rattle.pool_member.proofs.Keeping.{alone_at, few_of, may_begin, settled_on, spends_more, spends_none, tells_settled, times_one}
 use Rattle.pool_member.proofs.Letters.{later_letters}
 use Rattle.pool_member.proofs.Settling.{alloc_cause, settled_does, still_turns}
 use Rattle.pool_member.proofs.work.allocation.allocate.Goals as goal

@@ -4,6 +4,7 @@ use Rattle.pool_law.specs.declared.id.RootId.{RootId}
 use Rattle.pool_table.specs.Counts.{HasCount}
 use Rattle.shared_pool.specs.SeatViews.{view_of}
 use Rattle.seat_work.specs.Changes.{once_more}
+use Rattle.seat_work.proofs.Counting.{one_self}
 use Rattle.seat_tries.specs.declared.allocation.AllocNo.{AllocNo}
 use Rattle.seat_tries.specs.Allocations.{allocated, refused}
 use Rattle.seat_tries.specs.Leaving.{GoesOn}
@@ -12,7 +13,7 @@ use Rattle.pool_member.specs.declared.pending.Pending.{Pending}
 use Rattle.pool_member.specs.declared.pending.Pending.TheVariants.{Tried}
 use Rattle.pool_member.specs.Threads.{Does}
 use Rattle.pool_member.proofs.AloneLater.{stays_later}
-use Rattle.pool_member.proofs.Keeping.{alone_at, few_of, kept_on, may_begin, one_self, spends_more, spends_none, tells_known, times_one}
+use Rattle.pool_member.proofs.Keeping.{alone_at, few_of, kept_on, may_begin, spends_more, spends_none, tells_known, times_one}
 use Rattle.pool_member.proofs.Letters.{later_letters}
 use Rattle.pool_member.proofs.Settling.{none_got, none_gone}
 use Rattle.pool_member.proofs.work.allocation.try_allocate_settled.Goals as goal

@@ -7,10 +7,11 @@ use Rattle.seat_work.specs.declared.regrowth.GrowNo.{GrowNo}
 use Rattle.seat_work.specs.declared.regrowth.GrowNo.TheVariants.{Full}
 use Rattle.seat_work.specs.Changes.{times}
 use Rattle.seat_work.specs.Regrowths.{grown}
+use Rattle.seat_work.proofs.Regrowing.{told_so}
 use Rattle.pool_member.specs.declared.member.Member.{Member}
 use Rattle.pool_member.specs.Counting.{known, told}
 use Rattle.pool_member.proofs.AloneLater.{grows_alone, stays_asked}
-use Rattle.pool_member.proofs.Keeping.{has_count, knows_too, may_begin, settled_on, spends_none, tell_known, tells_settled, told_self}
+use Rattle.pool_member.proofs.Keeping.{has_count, knows_too, may_begin, settled_on, spends_none, tell_known, tells_settled}
 use Rattle.pool_member.proofs.Letters.{later_letters_but}
 use Rattle.pool_member.proofs.work.growth.grow_settled.Goals as goal
 
@@ -76,7 +77,7 @@ returns-in-Ok-clause-counts g c =
 pub returns-in-Ok-clause-knows : goal.returns-in-Ok-clause-knows
 returns-in-Ok-clause-knows g c =
     let pool = c.args.pool.now in let old = c.args.member.now in let root = c.args.root in
-    let a = c.tell.ensures.tells root in let b = told_self root c.in-Ok.capacity in
+    let a = c.tell.ensures.tells root in let b = told_so root c.in-Ok.capacity in
     let u : ℕ = knows_of root (view_of old.seat) in
     let below : known old.account.counts root ≤ u = knows_too pool old c.requires.thread root
     (known old.account.counts root) (le_refl (known old.account.counts root)) in

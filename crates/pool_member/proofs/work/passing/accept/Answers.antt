@@ -14,12 +14,14 @@ use Rattle.shared_pool.specs.SeatViews.{view_of}
 use Rattle.seat_work.specs.Changes.{once_more}
 use Rattle.seat_work.specs.HandOvers.{fetched}
 use Rattle.seat_work.specs.Works.{Proceeds}
+use Rattle.seat_work.proofs.Counting.{one_self}
+use Rattle.seat_work.proofs.Regrowing.{told_so}
 use Rattle.seat_tries.proofs.Carrying.{fetches}
 use Rattle.pool_member.specs.declared.member.Member.{Member}
 use Rattle.pool_member.specs.Counting.{counted, told}
 use Rattle.pool_member.specs.Pendings.{hand_of}
 use Rattle.pool_member.proofs.Alone.{keeps, stays_fetched}
-use Rattle.pool_member.proofs.Keeping.{alone_at, kept_by, may_work, one_self, spends_more, tell_known, times_one, told_self}
+use Rattle.pool_member.proofs.Keeping.{alone_at, kept_by, may_work, spends_more, tell_known, times_one}
 use Rattle.pool_member.proofs.Passing.{lane_below, next_here, none_sent, received_now, to_here}
 use Rattle.pool_member.proofs.Pendings.{pending_stays}
 use Rattle.pool_member.proofs.work.passing.accept.Goals as goal
@@ -75,7 +77,7 @@ returns-clause-counts c =
 
 pub returns-clause-reaches : goal.returns-clause-reaches
 returns-clause-reaches c =
-    let at = c.in-Some.at in let a = c.tell.ensures.tells at.root in let b = told_self at.root (at.offset + at.len) in
+    let at = c.in-Some.at in let a = c.tell.ensures.tells at.root in let b = told_so at.root (at.offset + at.len) in
     omega (arith, a, b)
 
 pub returns-clause-does : goal.returns-clause-does
