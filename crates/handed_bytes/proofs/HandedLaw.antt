@@ -1,7 +1,7 @@
 -- What one lane writes to a root before it sends it is what another reads of it.
-use Rattle.std.proofs.Common.{◌≡◌, ℕ, zero, suc, ◌+◌, ◌-◌, ◌<◌, ◌≤◌, List, [], ◌∷◌, ◌++◌, length, take, drop, map, refl, sym, ap, subst, arith, Some, None, append_assoc, ◌∙◌}
+use Rattle.std.proofs.Common.{◌≡◌, ℕ, zero, suc, ◌+◌, ◌-◌, ◌<◌, ◌≤◌, List, [], ◌∷◌, ◌++◌, length, take, drop, refl, sym, ap, arith, Some, None, append_assoc, ◌∙◌}
 use Rattle.std.specs.Prelude.{Option, nat_le, option_and_then, option_map, if◌then◌else◌, slice_get}
-use Rattle.std.proofs.lemmas.List.{take-append-drop, take-append-le, drop-append-le, drop-take}
+use Rattle.std.proofs.lemmas.List.{take-append-le, drop-append-le}
 use Rattle.pool_law.specs.declared.id.Parcel.{Parcel}
 use Rattle.pool_law.specs.declared.id.RootId.{RootId}
 use Rattle.pool_law.specs.declared.note.Did.{Did}
@@ -14,22 +14,22 @@ use Rattle.pool_law.specs.declared.run.Shape.{Shape}
 use Rattle.pool_law.specs.Histories.{after, place_after}
 use Rattle.pool_law.specs.Legal.{HistoriesHold}
 use Rattle.pool_law.specs.Lives.{StandsAt}
-use Rattle.pool_law.specs.Logs.{Logs, History, dids, entry_of, history_of, of_lane, present_before, present_in}
+use Rattle.pool_law.specs.Logs.{Logs, dids, entry_of, history_of, of_lane, present_in}
 use Rattle.pool_law.specs.Mails.{posted, fetched}
 use Rattle.pool_law.proofs.PatternLemmas.{same_object-refl}
+use Rattle.pool_law.proofs.ListLemmas.{get-behind, slice_get-below}
+use Rattle.pool_law.proofs.LogLemmas.{dids-at}
 use Rattle.pool_law.specs.Roots.{RootPlace, Present, new_place, bytes_at, laid_over, place_step, place_step_by, with_bytes}
 use Rattle.run_laws.proofs.CacheLaw.{if_so-is}
 use Rattle.run_laws.proofs.Numbered.{in-history, in-log}
 use Rattle.run_laws.proofs.Placed.{step-at, is-some}
-use Rattle.run_laws.proofs.Totals.{dids-at, dids-there}
+use Rattle.run_laws.proofs.Totals.{dids-there}
 use Rattle.run_laws.proofs.Written.{got-there}
-use Rattle.arena_laws.proofs.ReturnLaw.{after-append}
-use Rattle.run_order.specs.HandOver.{IsHandedOver}
 use Rattle.run_order.specs.Order.{InOneOrder}
-use Rattle.run_order.proofs.Fronts.{split-at, get-behind}
+use Rattle.run_order.proofs.Fronts.{split-at}
 use Rattle.run_order.proofs.MailLists.{posted-append, fetched-append}
 use Rattle.run_order.proofs.HandOver.{handed_over}
-use Rattle.handed_bytes.specs.Handed.{at_root, Accesses, WritesOnce, Posts, Fetches, FetchesWhatIsPosted, ReadsWhatIsWritten}
+use Rattle.handed_bytes.specs.Handed.{at_root, Accesses, WritesOnce, FetchesWhatIsPosted, ReadsWhatIsWritten}
 use Rattle.handed_bytes.proofs.PlaceSpans.{IsLast, new-last, after-last, Unset, bytes-stay}
 
 -- what is present, where its root is known
@@ -198,11 +198,6 @@ get-taken [] (suc n) i low = refl
 get-taken (y ∷ xs) (suc n) zero low = refl
 get-taken (y ∷ xs) (suc n) (suc i) low = get-taken xs n i (omega (arith, low))
 
-below : {X : Type 0} (xs : List X) (i : ℕ) (x : X) → slice_get xs i ≡ Some x → i < length xs
-below [] i x e = absurd (cc e)
-below (y ∷ xs) zero x e = omega arith
-below (y ∷ xs) (suc i) x e = omega (arith, below xs i x e)
-
 -- ---- Where a parcel stands among those of its mail.
 
 posted-at : (mail : Object) (log : List Note) (at number : ℕ) (parcel : Parcel)
@@ -333,7 +328,7 @@ module _ (shape : Shape) (logs : Logs) (holds : HistoriesHold shape logs) where
       sym (ap (slice_get (fetched mail (of_lane logs receiver))) (sym f.earlier) ∙ came)
       ∙ front
       ∙ get-taken (posted mail (of_lane logs sender)) (length (fetched mail (of_lane logs receiver))) k
-      (below (fetched mail (of_lane logs receiver)) k (f.number, got)
+      (slice_get-below (fetched mail (of_lane logs receiver)) k (f.number, got)
       (ap (slice_get (fetched mail (of_lane logs receiver))) (sym f.earlier) ∙ came))
       ∙ ap (slice_get (posted mail (of_lane logs sender))) (sym p.earlier)
       ∙ sent in

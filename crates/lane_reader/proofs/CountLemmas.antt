@@ -8,11 +8,11 @@ use Rattle.std.specs.BTreeMap.{is_at}
 use Rattle.pool_law.specs.declared.id.RootId.{RootId}
 use Rattle.pool_law.specs.Same.{same_root}
 use Rattle.pool_law.proofs.SameLemmas.{same_root-is}
+use Rattle.pool_law.proofs.NumberLemmas.{is_eq-nat}
 use Rattle.pool_law.specs.declared.note.Note.{Note}
 use Rattle.pool_law.specs.Counts.{count_from, count_step, note_gains, note_loses}
 use Rattle.pool_law.specs.Readers.{ToldNotes}
 use Rattle.object_steps.specs.declared.told.PlaceTold.{PlaceTold}
-use Rattle.object_steps.proofs.BinLemmas.{is_eq-nat}
 use Rattle.lane_reader.specs.Reading.{entry, untold, entries_in}
 use Rattle.lane_reader.specs.Counting.{key_cmp, key_of, count_after}
 use Rattle.lane_reader.proofs.ReadingLemmas.{entries-from, take-next}

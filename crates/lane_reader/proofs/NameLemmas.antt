@@ -2,11 +2,11 @@
 use Rattle.std.proofs.Common.{◌≡◌, ℕ, [], ◌∷◌, Bool, true, false, Option, Some, None, refl, sym, eqb-true, eq-eqb, ◌∙◌}
 use Rattle.std.specs.Prelude.{◌==◌, if◌then◌else◌, cond, option_map}
 use Rattle.pool_law.specs.Names.{Names, bind, lookup, without}
+use Rattle.pool_law.proofs.NumberLemmas.{is_eq-nat}
 use Rattle.std.specs.Ordering.{nat_cmp}
 use Rattle.std.specs.BTreeMap.{is_at}
 use Rattle.lane_reader.specs.declared.bound.Bound.{Bound}
 use Rattle.lane_reader.specs.Viewing.{bound_of}
-use Rattle.object_steps.proofs.BinLemmas.{is_eq-nat}
 
 pub lookup-without : (n name : ℕ) (bs : Names) →
     lookup n (without name bs) ≡ (if name == n then None else lookup n bs)

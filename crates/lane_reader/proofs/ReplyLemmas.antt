@@ -1,23 +1,14 @@
 -- Replies that are the same.
-use Rattle.std.proofs.Common.{◌≡◌, ℕ, List, [], ◌∷◌, Bool, true, false, refl, ap, eqb-true}
+use Rattle.std.proofs.Common.{◌≡◌, Bool, true, false, refl, ap, eqb-true}
 use Rattle.std.specs.Prelude.{◌==◌, if◌then◌else◌, Option, Some, None}
 use Rattle.pool_law.specs.declared.run.Reply.{Reply}
-use Rattle.pool_law.specs.Same.{same_place, same_bytes}
+use Rattle.pool_law.specs.Same.{same_place}
 use Rattle.pool_law.specs.LaneStates.{LaneState}
-use Rattle.pool_law.proofs.SameLemmas.{and-first, and-second, same_place-is}
+use Rattle.pool_law.proofs.SameLemmas.{and-first, and-second, same_place-is, same_bytes-is}
 use Rattle.pool_law.proofs.CompositeLemmas.{same_bytes-refl}
 use Rattle.pool_law.proofs.PatternLemmas.{both_true, same_number, same_place-refl}
 use Rattle.lane_reader.specs.Replying.{same_reply}
 use Rattle.lane_reader.specs.Running.{where_answered}
-
-same_bytes-equal : (xs ys : List ℕ) → same_bytes xs ys ≡ true → xs ≡ ys
-same_bytes-equal [] [] e = refl
-same_bytes-equal [] (y ∷ ys) e = absurd (cc e)
-same_bytes-equal (x ∷ xs) [] e = absurd (cc e)
-same_bytes-equal (x ∷ xs) (y ∷ ys) e =
-    let first : x ≡ y = eqb-true x y (and-first (x == y) (same_bytes xs ys) e) in
-    let rest : xs ≡ ys = same_bytes-equal xs ys (and-second (x == y) (same_bytes xs ys) e) in
-    λ i. first i ∷ rest i
 
 -- a reply is the same as itself
 pub same_reply-self : (a : Reply) → same_reply a a ≡ true
@@ -48,7 +39,7 @@ same_reply-is (Reply.OkPlace size place) (Reply.OkPlace size' place') e =
     let rest : place ≡ place' = same_place-is place place' (and-second (size == size') (same_place place place') e) in
     λ i. Reply.OkPlace (first i) (rest i)
 same_reply-is (Reply.OkBytes bytes) (Reply.OkBytes bytes') e =
-    let same : bytes ≡ bytes' = same_bytes-equal bytes bytes' e in λ i. Reply.OkBytes (same i)
+    let same : bytes ≡ bytes' = same_bytes-is bytes bytes' e in λ i. Reply.OkBytes (same i)
 same_reply-is (Reply.OkNumber n) (Reply.OkNumber n') e =
     let same : n ≡ n' = eqb-true n n' e in λ i. Reply.OkNumber (same i)
 same_reply-is Reply.Kept Reply.Kept e = refl

@@ -3,14 +3,14 @@ use Rattle.std.proofs.Common.{⊎_elim, inl, inr, ◌≡◌, ℕ, zero, suc, ◌
 use Rattle.std.specs.Prelude.{◌==◌, ◌&&◌, if◌then◌else◌, slice_get}
 use Rattle.std.proofs.lemmas.Bool.{cases_lt}
 use Rattle.std.proofs.lemmas.List.{length_push}
-use Rattle.std.proofs.lemmas.Option.{slice_get_within}
+use Rattle.std.proofs.lemmas.Option.{slice_get_within, same_Some}
 use Rattle.pool_law.specs.declared.note.Note.{Note}
 use Rattle.pool_law.specs.Logs.{Logs, of_lane}
 use Rattle.pool_law.specs.Lives.{StandsAt}
 use Rattle.pool_law.proofs.SameLemmas.{and-first, and-second}
-use Rattle.pool_law.proofs.HistoryLemmas.{slice_get-beyond}
+use Rattle.pool_law.proofs.HistoryLemmas.{log-past}
 use Rattle.run_order.proofs.Fronts.{by-test}
-use Rattle.topo_order.proofs.Lists.{same_some, pushed, pushed_before, pushed_last}
+use Rattle.topo_order.proofs.Lists.{pushed, pushed_before, pushed_last}
 use Rattle.topo_order.proofs.Walks.{below-or}
 use Rattle.log_order.specs.Graphs.{IsGraph}
 use Rattle.log_order.specs.Staging.{Stage, stage_of}
@@ -26,7 +26,7 @@ use Rattle.log_order.proofs.KeyLemmas.{same_key-is, same_key-refl}
 pub one-note : (logs : Logs) (s t : Spot) (n m : Note) → s ≡ t → StandsAt logs s.lane s.at n
     → StandsAt logs t.lane t.at m → n ≡ m
 one-note logs s t n m same is other =
-    same_some n m (sym is ∙ ap (λ (z : Spot). slice_get (of_lane logs z.lane) z.at) same ∙ other)
+    same_Some n m (sym is ∙ ap (λ (z : Spot). slice_get (of_lane logs z.lane) z.at) same ∙ other)
 
 before-zero : (logs : Logs) → before logs 0 ≡ 0
 before-zero [] = refl
@@ -97,7 +97,7 @@ pub lane-low : (logs : Logs) (lane at : ℕ) (n : Note) → StandsAt logs lane a
 lane-low logs lane at n is =
     ⊎_elim (λ low. low)
     (λ high. let none : slice_get [] at ≡ Some n =
-    ap (λ xs. slice_get xs at) (sym (slice_get-beyond logs lane high)) ∙ is in absurd (cc none))
+    ap (λ xs. slice_get xs at) (sym (log-past logs lane high)) ∙ is in absurd (cc none))
     (cases_lt lane (length logs))
 
 same_stage-is : (x y : Stage) → same_stage x y ≡ true → x ≡ y

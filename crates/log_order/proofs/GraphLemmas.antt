@@ -4,10 +4,10 @@ use Rattle.std.specs.Prelude.{slice_get, Vec}
 use Rattle.std.specs.declared.alloc.Global.{Global}
 use Rattle.std.proofs.lemmas.Bool.{cases_eq, cases_lt}
 use Rattle.std.proofs.lemmas.List.{length-set, length_push}
-use Rattle.std.proofs.lemmas.Option.{slice_get_within}
+use Rattle.std.proofs.lemmas.Option.{slice_get_within, same_Some}
 use Rattle.pool_law.specs.Logs.{Logs}
 use Rattle.topo_order.specs.Sorting.{MustPrecede, AreNodes, IsCircle}
-use Rattle.topo_order.proofs.Lists.{same_some, item, get_set, get_set_other, set_cases, pushed, pushed_before, pushed_last}
+use Rattle.topo_order.proofs.Lists.{item, get_set, get_set_other, set_cases, pushed, pushed_before, pushed_last}
 use Rattle.log_order.specs.Graphs.{AreNodesOf, AreBack}
 use Rattle.log_order.specs.Precedence.{MustStandBefore, GoesInACircle}
 use Rattle.log_order.specs.declared.spots.Spot.{Spot}
@@ -78,7 +78,7 @@ pub kept-needs : (needs : List (Vec ℕ Global)) (node first : ℕ) (old new : V
 kept-needs needs node first old new f v is more p =
     ⊎_elim
     (λ same.
-    let one : p.0 ≡ old = same_some _ _ (sym p.2 ∙ ap (slice_get needs) same ∙ is) in (
+    let one : p.0 ≡ old = same_Some _ _ (sym p.2 ∙ ap (slice_get needs) same ∙ is) in (
       new,
       p.1,
       ap (slice_get (set needs node new)) same ∙ get_set needs node new (slice_get_within needs node old is),

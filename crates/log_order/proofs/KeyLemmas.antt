@@ -1,22 +1,19 @@
 -- Keys under which steps are counted.
-use Rattle.std.proofs.Common.{◌≡◌, ℕ, ◌+◌, Bool, true, false, Option, Some, refl, sym, ap, arith, ◌∙◌, eqb-true, eq-eqb}
+use Rattle.std.proofs.Common.{◌≡◌, ℕ, ◌+◌, Bool, true, false, Option, Some, refl, ap, arith, ◌∙◌, eqb-true, eq-eqb}
 use Rattle.std.specs.Prelude.{◌==◌, ◌&&◌, if◌then◌else◌, unwrap_or}
 use Rattle.std.specs.declared.cmp.Ordering.{Ordering}
 use Rattle.std.specs.declared.cmp.Ordering.TheVariants.{Less, Equal, Greater}
 use Rattle.std.specs.Ordering.{nat_cmp, ordering_then, is_eq}
 use Rattle.std.specs.BTreeMap.{is_at}
-use Rattle.std.proofs.lemmas.Bool.Decides.{nat_tests}
 use Rattle.std.proofs.Math.Bool.{and-true}
 use Rattle.pool_law.specs.declared.note.Object.{Object}
 use Rattle.pool_law.specs.declared.note.Object.TheVariants.{Arena, Cache, Bin, Mail, Root}
 use Rattle.pool_law.specs.Same.{same_object}
-use Rattle.pool_law.proofs.SameLemmas.{and-first, and-second}
+use Rattle.pool_law.proofs.SameLemmas.{and-first, and-second, same_object-swap}
+use Rattle.pool_law.proofs.NumberLemmas.{is_eq-nat}
 use Rattle.pool_law.specs.Legal.{one_if}
 use Rattle.log_order.specs.Keying.{object_key}
 use Rattle.log_order.specs.Tallying.{Key, key_cmp, same_key, one_at}
-
-is_eq-nat : (a b : ℕ) → is_eq (nat_cmp a b) ≡ (a == b)
-is_eq-nat a b = grind (arith, nat_tests)
 
 is_eq-then : (p q r s : Ordering) →
     is_eq (ordering_then (ordering_then (ordering_then p q) r) s) ≡ (is_eq p && (is_eq q && (is_eq r && is_eq s)))
@@ -60,23 +57,6 @@ count-put key other f n o e was = go (same_key key other) refl
     go true same = e ∙ ap (λ k. f k + 1) (same_key-is key other same)
     go false apart = omega (arith, was)
 
-eqb-swap : (a b : ℕ) → (a == b) ≡ (b == a)
-eqb-swap a b = go (a == b) refl (b == a) refl
-  where
-    go : (x : Bool) → (a == b) ≡ x → (y : Bool) → (b == a) ≡ y → x ≡ y
-    go true e true f = refl
-    go false e false f = refl
-    go true e false f = sym (eq-eqb b a (sym (eqb-true a b e))) ∙ f
-    go false e true f = sym e ∙ eq-eqb a b (sym (eqb-true b a f))
-
-same-object-swap : (a b : Object) → same_object a b ≡ same_object b a
-same-object-swap (Arena a) (Arena b) = eqb-swap a b
-same-object-swap (Cache l c) (Cache m d) = λ i. eqb-swap l m i && eqb-swap c d i
-same-object-swap (Bin a) (Bin b) = eqb-swap a b
-same-object-swap (Mail l c) (Mail m d) = λ i. eqb-swap l m i && eqb-swap c d i
-same-object-swap (Root a) (Root b) = eqb-swap a b
-same-object-swap _ _ = refl
-
 -- two objects have one key
 abbrev pub one_key : Object → Object → Bool
 one_key a b =
@@ -93,4 +73,4 @@ one_key-is (Root a) (Root b) = and-true (a == b)
 one_key-is _ _ = refl
 
 pub same-keys : (a b : Object) → one_key a b ≡ same_object b a
-same-keys a b = one_key-is a b ∙ same-object-swap a b
+same-keys a b = one_key-is a b ∙ same_object-swap a b

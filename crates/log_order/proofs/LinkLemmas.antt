@@ -2,12 +2,12 @@
 use Rattle.std.proofs.Common.{⊎_elim, inl, ◌≡◌, ℕ, zero, suc, ◌+◌, ◌-◌, ◌<◌, ◌≤◌, true, List, length, Option, Some, None, refl, sym, ap, subst, arith, ◌∙◌}
 use Rattle.std.specs.Prelude.{slice_get}
 use Rattle.std.proofs.lemmas.Bool.{cases_lt}
-use Rattle.std.proofs.lemmas.Option.{slice_get_within}
+use Rattle.std.proofs.lemmas.Option.{slice_get_within, same_Some}
 use Rattle.pool_law.specs.declared.note.Note.{Note}
 use Rattle.pool_law.specs.Logs.{Logs, of_lane}
 use Rattle.pool_law.specs.Lives.{StandsAt}
 use Rattle.topo_order.specs.Sorting.{IsOrder}
-use Rattle.topo_order.proofs.Lists.{same_some, item}
+use Rattle.topo_order.proofs.Lists.{item}
 use Rattle.log_order.specs.Graphs.{IsGraph}
 use Rattle.log_order.specs.Precedence.{note_precedes, MustStandBefore, GoesInACircle}
 use Rattle.log_order.specs.Staging.{Stage, stage_of, first_want, second_want}
@@ -78,7 +78,7 @@ node-linked logs old mid some new index lane at node s n want other w v f here i
     b-old = ap (λ z. slice_get z node) (sym same) ∙ bt
 
     second : must.second ≡ n
-    second = one-note logs b s must.second n (same_some b s (sym b-old ∙ here)) must.second_stands is
+    second = one-note logs b s must.second n (same_Some b s (sym b-old ∙ here)) must.second_stands is
 
     k : (k : ℕ) × (slice_get (listed index (stage_of must.first)) k ≡ Some first)
     k = f.listed first a must.first a-old must.first_stands
@@ -91,7 +91,7 @@ node-linked logs old mid some new index lane at node s n want other w v f here i
 pub nothing-linked : (logs : Logs) (graph : Graph) (node : ℕ) (s : Spot) → slice_get graph.spots.items node ≡ Some s
     → slice_get (of_lane logs s.lane) s.at ≡ None → (first : ℕ) → Links logs graph first node
 nothing-linked logs graph node s here none first a b at bt must =
-    let same : b ≡ s = same_some b s (sym bt ∙ here) in
+    let same : b ≡ s = same_Some b s (sym bt ∙ here) in
     let both : Some must.second ≡ None =
     sym must.second_stands ∙ ap (λ (z : Spot). slice_get (of_lane logs z.lane) z.at) same ∙ none in
     absurd (cc both)
@@ -159,7 +159,7 @@ module _ (logs : Logs) (graph : Graph) (order : List ℕ) (w : IsWhole logs grap
     climbs : (k : ℕ) (first a : Spot) (p q : ℕ) → slice_get spots zero ≡ Some first → slice_get spots k ≡ Some a
         → IsRanked graph order first p → IsRanked graph order a q → p ≤ q
     climbs zero first a p q start at x y =
-        let same : first ≡ a = same_some first a (sym start ∙ at) in
+        let same : first ≡ a = same_Some first a (sym start ∙ at) in
         omega (arith, one-rank a p q (subst (λ z. IsRanked graph order z p) same x) y)
     climbs (suc k) first a p q start at x y =
         let t = item spots k (omega (arith, slice_get_within spots (suc k) a at)) in

@@ -3,7 +3,7 @@ use Rattle.std.proofs.Common.{⊎_elim, ◌≡◌, ◌≤◌, ℕ, Bool, true, f
 use Rattle.std.specs.Prelude.{◌||◌, slice_get}
 use Rattle.std.proofs.lemmas.Bool.{cases_lt}
 use Rattle.pool_law.specs.Logs.{Logs}
-use Rattle.pool_law.proofs.HistoryLemmas.{slice_get-beyond}
+use Rattle.pool_law.proofs.HistoryLemmas.{log-past}
 use Rattle.log_order.specs.Playing.{steps_at, AreHeld, IsHeld, IsHeldBack, MovesOn, left_in}
 use Rattle.log_order.specs.declared.playing.Play.{Play}
 
@@ -52,6 +52,6 @@ all-held logs play held lane n at =
     ⊎_elim (λ low. held lane low n at)
     (λ high.
     let none : slice_get [] (get_or play.next.items lane 0) ≡ Some n =
-    ap (λ xs. slice_get xs (get_or play.next.items lane 0)) (sym (slice_get-beyond logs lane high)) ∙ at in
+    ap (λ xs. slice_get xs (get_or play.next.items lane 0)) (sym (log-past logs lane high)) ∙ at in
     absurd (cc none))
     (cases_lt lane (length logs))

@@ -2,7 +2,7 @@
 use Rattle.std.proofs.Common.{⊎_elim, ◌≡◌, ℕ, zero, suc, ◌+◌, ◌-◌, ◌≤◌, Bool, true, false, List, length, take, refl, sym, ap, subst, arith, Some, ◌∙◌, eqb-true}
 use Rattle.std.specs.Prelude.{◌<◌, if◌then◌else◌, slice_get}
 use Rattle.std.proofs.lemmas.Bool.{cases_lt}
-use Rattle.std.proofs.lemmas.Option.{slice_get_within}
+use Rattle.std.proofs.lemmas.Option.{slice_get_within, same_Some}
 use Rattle.pool_law.specs.declared.id.RootId.{RootId}
 use Rattle.pool_law.specs.declared.id.Parcel.{Parcel}
 use Rattle.pool_law.specs.declared.note.Object.{Object}
@@ -19,16 +19,16 @@ use Rattle.pool_law.specs.Lives.{StandsAt}
 use Rattle.pool_law.specs.Counts.{is_born, ends_root}
 use Rattle.pool_law.proofs.SameLemmas.{and-first, and-second, same_object-is, same_root-is}
 use Rattle.pool_law.proofs.PatternLemmas.{same_root-refl, same_object-refl}
+use Rattle.pool_law.proofs.ListLemmas.{item-at}
 use Rattle.run_order.specs.Order.{Step, made, is_at, is_post, Leave, Fits, InOneOrder}
-use Rattle.run_order.proofs.Fronts.{by-test, item-at, made-more, made-next, found-made}
+use Rattle.run_order.proofs.Fronts.{by-test, made-more, made-next, found-made}
 use Rattle.run_order.proofs.Positions.{place, there, later-in_log, later-at_object, fits-there, number-there, made-alike, made-posts}
-use Rattle.topo_order.proofs.Lists.{same_some}
 use Rattle.order_laws.proofs.CountMoments.{born-new, counted-born, phase-at, lives-at}
 use Rattle.log_order.specs.Precedence.{hands_over, at_precedes, is_end, ref_precedes, note_precedes, MustStandBefore, GoesInACircle}
 use Rattle.log_order.specs.declared.spots.Spot.{Spot}
 
 same-note : (x y : Step) → Some x ≡ Some y → x.note ≡ y.note
-same-note x y e = ap (λ (z : Step). z.note) (same_some x y e)
+same-note x y e = ap (λ (z : Step). z.note) (same_Some x y e)
 
 -- what sends a parcel is a post, and what gets one a fetch
 post-is : (d : Did) (p : Parcel) → passing d ≡ Goes p → d ≡ Post p

@@ -1,5 +1,5 @@
 -- Notes that are played one after another are in one order.
-use Rattle.std.proofs.Common.{⊎_elim, inl, ◌≡◌, ◌≢◌, ℕ, zero, suc, ◌+◌, ◌≤◌, ◌<◌, true, false, List, [], ◌∷◌, ◌++◌, length, set, take, get_or, Some, refl, sym, ap, subst, arith, ◌∙◌, eq-eqb}
+use Rattle.std.proofs.Common.{⊎_elim, inl, ◌≡◌, ◌≢◌, ℕ, zero, suc, ◌+◌, ◌≤◌, ◌<◌, true, false, List, [], ◌∷◌, ◌++◌, length, set, take, get_or, Some, refl, sym, ap, subst, arith, ◌∙◌, eq-eqb, append-nil}
 use Rattle.std.specs.Prelude.{◌==◌, if◌then◌else◌, slice_get}
 use Rattle.std.proofs.lemmas.Bool.{cases_eq, ne_eqb}
 use Rattle.std.proofs.lemmas.List.{length-set, take_all, take_more, get_or-set_same, get_or-set_other}
@@ -7,9 +7,9 @@ use Rattle.std.proofs.lemmas.Option.{slice_get_within, get_or_from_slice_get}
 use Rattle.pool_law.specs.declared.note.Note.{Note}
 use Rattle.pool_law.specs.Logs.{Logs, of_lane}
 use Rattle.pool_law.specs.Lives.{StandsAt}
-use Rattle.pool_law.proofs.HistoryLemmas.{append-assoc, append-nil}
+use Rattle.pool_law.proofs.HistoryLemmas.{append-assoc}
+use Rattle.pool_law.proofs.ListLemmas.{get-behind, front-is}
 use Rattle.run_order.specs.Order.{Step, notes_by, Fits, InOneOrder}
-use Rattle.run_order.proofs.Fronts.{get-behind, front-is}
 use Rattle.run_order.proofs.Tests.{note_fits-is, Fits-tests}
 use Rattle.run_order.proofs.Turns.{notes-append}
 use Rattle.topo_order.proofs.Lists.{pushed}

@@ -8,12 +8,9 @@ use Rattle.std.proofs.lemmas.List.{map-append}
 use Rattle.std.proofs.lemmas.List.Folds.{list_any-append}
 use Rattle.size_classes.specs.Sizes.{below}
 use Rattle.pool_law.specs.Caches.{has_place}
+use Rattle.pool_law.proofs.NumberLemmas.{is_eq-nat}
 use Rattle.object_steps.specs.Homing.{AreOnce, AreAtHome}
-use Rattle.std.specs.Ordering.{nat_cmp, is_eq}
-use Rattle.std.proofs.lemmas.Bool.Decides.{nat_tests}
-
-pub is_eq-nat : (a b : ℕ) → is_eq (nat_cmp a b) ≡ (a == b)
-is_eq-nat a b = grind (arith, nat_tests)
+use Rattle.std.specs.Ordering.{nat_cmp}
 
 -- the places from the first on, so many
 abbrev pub places_from : ℕ → ℕ → List ℕ

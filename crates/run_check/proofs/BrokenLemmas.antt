@@ -36,13 +36,6 @@ accepts-front shape (Bin lane) ds n good = after-front _ _ ds n good
 accepts-front shape (Mail sender receiver) ds n good = absurd (cc good)
 accepts-front shape (Root place) ds n good = after-front _ _ ds n good
 
-pub accepts-nothing : (shape : Shape) (object : Object) → has_history object ≡ true → accepts shape object [] ≡ true
-accepts-nothing shape (Arena number) has = refl
-accepts-nothing shape (Cache lane class) has = refl
-accepts-nothing shape (Bin lane) has = refl
-accepts-nothing shape (Mail sender receiver) has = absurd (cc has)
-accepts-nothing shape (Root place) has = refl
-
 -- notes that are refused are accepted up to one of them
 pub accepts-less : (shape : Shape) (object : Object) (ds : List Did) (n : ℕ) → AcceptsSoMany shape object ds n →
     accepts shape object ds ≡ false → n < length ds

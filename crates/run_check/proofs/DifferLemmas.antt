@@ -4,16 +4,12 @@ use Rattle.std.specs.Prelude.{min, slice_get}
 use Rattle.std.proofs.lemmas.List.{take_at, take_all, length-take-le}
 use Rattle.std.proofs.lemmas.Bool.{cases_lt}
 use Rattle.run_check.specs.Placing.{DifferAt}
-use Rattle.pool_law.proofs.ListLemmas.{slice_get-past}
+use Rattle.pool_law.proofs.ListLemmas.{slice_get-past, get-behind}
 
 pub get-there : {X : Type 0} (xs : List X) (i : ℕ) (d : X) → i < length xs → slice_get xs i ≡ Some (get_or xs i d)
 get-there [] i d there = absurd (omega (arith, there))
 get-there (x ∷ xs) zero d there = refl
 get-there (x ∷ xs) (suc i) d there = get-there xs i d (omega (arith, there))
-
-get-seam : {X : Type 0} (xs : List X) (y : X) (ys : List X) → slice_get (xs ++ y ∷ ys) (length xs) ≡ Some y
-get-seam [] y ys = refl
-get-seam (x ∷ xs) y ys = get-seam xs y ys
 
 -- a list that goes on otherwise behind what both have
 pub differ-here : {X : Type 0} (xs : List X) (at : ℕ) (y : X) (ys : List X) → at ≤ length xs →
@@ -21,7 +17,7 @@ pub differ-here : {X : Type 0} (xs : List X) (at : ℕ) (y : X) (ys : List X) �
 differ-here {X = X} xs at y ys inside unlike =
     let long : length (take at xs) ≡ at = length-take-le at xs inside in
     let there : slice_get (take at xs ++ y ∷ ys) at ≡ Some y =
-    subst (λ (n : ℕ). slice_get (take at xs ++ y ∷ ys) n ≡ Some y) long (get-seam (take at xs) y ys) in
+    subst (λ (n : ℕ). slice_get (take at xs ++ y ∷ ys) n ≡ Some y) long (get-behind (take at xs) y ys) in
     record {
       same = sym (take_at (take at xs) (y ∷ ys) at long);
       unlike = λ e. unlike (e ∙ there);

@@ -14,6 +14,7 @@ use Rattle.pool_law.specs.Roots.{RootPlace, new_place, place_step}
 use Rattle.pool_law.specs.Histories.{after, place_after}
 use Rattle.pool_law.specs.Logs.{Logs, History, ToldNote, dids, of_lane, own, own_note, numbered, history_of, present_in, entry_of}
 use Rattle.pool_law.proofs.HistoryLemmas.{history_of-is}
+use Rattle.pool_law.proofs.LogLemmas.{dids-at}
 use Rattle.object_steps.specs.declared.told.PlaceTold.{PlaceTold}
 use Rattle.run_check.specs.declared.histories.Histories.{Histories}
 use Rattle.lane_reader.specs.Reading.{untold, entry, entries_in}
@@ -86,11 +87,6 @@ numbered-has lane n (e ∷ h) number did j is =
     go later true same (suc i) found = further later i found
     go later false same i found = further later i found
 
-get-dids : (h : History) (k lane : ℕ) (did : Did) → slice_get h k ≡ Some (lane, did) → slice_get (dids h) k ≡ Some did
-get-dids [] k lane did is = absurd (cc is)
-get-dids (e ∷ h) zero lane did is = let same : e.1 ≡ did = cc is in ap Some same
-get-dids (e ∷ h) (suc k) lane did is = get-dids h k lane did is
-
 -- the first notes of a history may stand
 pub after-front : {S : Type 0} (step : S → Did → Option S) (s : S) (ds : List Did) (k : ℕ) →
     is_some (after step s ds) ≡ true → (t : S) × (after step s (take k ds) ≡ Some t)
@@ -120,7 +116,7 @@ module _ (shape : Shape) (logs : Logs) (m : Histories) (are : AreHistories shape
       let before : (t : RootPlace) × (after (place_step place) new_place (take (number - 1) (dids h)) ≡ Some t) =
       after-front (place_step place) new_place (dids h) (number - 1) (are.accepted (Root place) refl) in
       let found : slice_get (told_of_each place new_place (dids h)) (number - 1) ≡ Some (told_by did before.0.present) =
-      told-at place new_place (dids h) (number - 1) did before.0 (get-dids h (number - 1) noted.0 did there.1)
+      told-at place new_place (dids h) (number - 1) did before.0 (dids-at h (number - 1) noted.0 did there.1)
       before.1 in
       let what : told ≡ told_by did before.0.present =
       is

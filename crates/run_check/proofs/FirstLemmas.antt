@@ -1,7 +1,6 @@
 -- What is asked of a list from a state on, one item at a time, and the first place where it isn't so.
-use Rattle.std.proofs.Common.{◌≡◌, ℕ, suc, ◌+◌, ◌<◌, List, [], ◌∷◌, ◌++◌, length, map, take, drop, append_assoc, add-one, length-drop, sym, ap, subst, arith, ◌∙◌}
+use Rattle.std.proofs.Common.{◌≡◌, ℕ, suc, ◌+◌, ◌<◌, List, [], ◌∷◌, ◌++◌, length, map, take, drop, append_assoc, add-one, length-drop, sym, ap, subst, arith, ◌∙◌, append-nil}
 use Rattle.std.proofs.lemmas.List.{take_all, take-append-drop, take-map, length-map}
-use Rattle.pool_law.proofs.HistoryLemmas.{append-nil}
 use Rattle.pool_law.specs.Logs.{of_lane}
 use Rattle.lane_reader.proofs.ReadingLemmas.{take-next}
 use Rattle.run_check.specs.declared.breach.NoteSpot.{NoteSpot}

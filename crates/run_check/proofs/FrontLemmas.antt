@@ -1,5 +1,5 @@
 -- Fronts of histories.
-use Rattle.std.proofs.Common.{◌≡◌, ℕ, zero, suc, ◌+◌, ◌-◌, ◌<◌, ◌≤◌, Bool, true, false, List, [], ◌∷◌, ◌++◌, length, take, drop, length-drop, eqb-true, ⊎_elim, refl, sym, ap, subst, arith, ◌∙◌}
+use Rattle.std.proofs.Common.{◌≡◌, ℕ, zero, suc, ◌+◌, ◌-◌, ◌<◌, ◌≤◌, Bool, true, false, List, [], ◌∷◌, ◌++◌, length, take, drop, length-drop, eqb-true, ⊎_elim, refl, sym, ap, subst, arith, ◌∙◌, append-nil}
 use Rattle.std.specs.Prelude.{◌==◌}
 use Rattle.std.specs.List.{All}
 use Rattle.std.proofs.lemmas.Bool.{cases_lt, cond_both}
@@ -7,7 +7,7 @@ use Rattle.std.proofs.lemmas.List.{append_cancel_left, length-take-le, take-take
 use Rattle.std.proofs.lemmas.List.Elements.{All-nil, All-cons, All-head, All-same, All-append, All-weaker}
 use Rattle.pool_law.specs.declared.note.Did.{Did}
 use Rattle.pool_law.specs.Logs.{History, numbered}
-use Rattle.pool_law.proofs.HistoryLemmas.{append-assoc, append-nil, one_if, numbered-step}
+use Rattle.pool_law.proofs.HistoryLemmas.{append-assoc, one_if, numbered-step}
 use Rattle.run_check.specs.Gathering.{AreNumbered, HasNext, IsStuck}
 use Rattle.run_check.specs.Fronts.{IsFront, StopsAt}
 use Rattle.run_check.proofs.LeastLemmas.{All-behind}

@@ -1,6 +1,6 @@
 -- Keys of objects.
-use Rattle.std.proofs.Common.{◌≡◌, ℕ, Bool, true, false, refl, sym, eqb-true, eq-eqb, ◌∙◌}
-use Rattle.std.specs.Prelude.{◌==◌, ◌&&◌}
+use Rattle.std.proofs.Common.{◌≡◌, refl, ◌∙◌}
+use Rattle.std.specs.Prelude.{◌==◌}
 use Rattle.std.specs.BTreeMap.{is_at}
 use Rattle.std.proofs.Math.Bool.{and-true}
 use Rattle.pool_law.specs.declared.note.Object.{Object}
@@ -17,20 +17,3 @@ is_at-object (Bin a) (Bin b) = is_at-keys (object_key (Bin a)) (object_key (Bin 
 is_at-object (Mail l c) (Mail m d) = is_at-keys (object_key (Mail l c)) (object_key (Mail m d))
 is_at-object (Root a) (Root b) = is_at-keys (object_key (Root a)) (object_key (Root b)) ∙ and-true (a == b)
 is_at-object _ _ = refl
-
-eqb-swap : (a b : ℕ) → (a == b) ≡ (b == a)
-eqb-swap a b = go (a == b) refl (b == a) refl
-  where
-    go : (x : Bool) → (a == b) ≡ x → (y : Bool) → (b == a) ≡ y → x ≡ y
-    go true e true f = refl
-    go false e false f = refl
-    go true e false f = sym (eq-eqb b a (sym (eqb-true a b e))) ∙ f
-    go false e true f = sym e ∙ eq-eqb a b (sym (eqb-true b a f))
-
-pub same-object-swap : (a b : Object) → same_object a b ≡ same_object b a
-same-object-swap (Arena a) (Arena b) = eqb-swap a b
-same-object-swap (Cache l c) (Cache m d) = λ i. eqb-swap l m i && eqb-swap c d i
-same-object-swap (Bin a) (Bin b) = eqb-swap a b
-same-object-swap (Mail l c) (Mail m d) = λ i. eqb-swap l m i && eqb-swap c d i
-same-object-swap (Root a) (Root b) = eqb-swap a b
-same-object-swap _ _ = refl

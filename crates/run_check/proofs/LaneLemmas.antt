@@ -7,18 +7,8 @@ use Rattle.std.proofs.lemmas.Bool.{cases_lt}
 use Rattle.pool_law.specs.declared.note.Note.{Note}
 use Rattle.pool_law.specs.declared.run.LaneLog.{LaneLog}
 use Rattle.pool_law.specs.Logs.{Logs, of_lane, entry_of, entries_of}
+use Rattle.pool_law.proofs.HistoryLemmas.{log-past}
 use Rattle.run_check.specs.Spotting.{notes_in, replies_in}
-
-pub lane-at : {X : Type 0} (logs : List (List X)) (k : ℕ) (log : List X) → k < length logs →
-    log ≡ get_or logs k log → of_lane logs k ≡ log
-lane-at [] k log there is = absurd (omega (arith, there))
-lane-at (x ∷ logs) zero log there is = sym is
-lane-at (x ∷ logs) (suc k) log there is = lane-at logs k log (omega (arith, there)) is
-
-pub lane-past : {X : Type 0} (logs : List (List X)) (k : ℕ) → length logs ≤ k → of_lane logs k ≡ []
-lane-past [] k past = refl
-lane-past (x ∷ logs) zero past = absurd (omega (arith, past))
-lane-past (x ∷ logs) (suc k) past = lane-past logs k (omega (arith, past))
 
 pub notes-at : (logs : List LaneLog) (k : ℕ) (log : LaneLog) → k < length logs →
     log ≡ get_or logs k log → of_lane (notes_in logs) k ≡ log.notes
@@ -50,7 +40,7 @@ pub each-lane : {X : Type 0} (P : ℕ → List X → Type 0) (logs : List (List 
 each-lane {X = X} P logs n there all none k =
     ⊎_elim
     (λ inside. there k inside)
-    (λ past. subst (λ (xs : List X). P k xs) (sym (lane-past logs k (omega (arith, past, all)))) (none k))
+    (λ past. subst (λ (xs : List X). P k xs) (sym (log-past logs k (omega (arith, past, all)))) (none k))
     (cases_lt k n)
 
 pub each-notes : (P : ℕ → List Note → Type 0) (logs : List LaneLog) (n : ℕ) →

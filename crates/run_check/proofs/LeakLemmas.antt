@@ -8,17 +8,18 @@ use Rattle.run_check.specs.declared.merging.Done.{Done}
 use Rattle.std.specs.Prelude.{◌==◌, ◌&&◌, not, if◌then◌else◌}
 use Rattle.std.specs.List.{AllZip}
 use Rattle.pool_law.specs.declared.id.RootId.{RootId}
-use Rattle.pool_law.specs.declared.note.Object.TheVariants.{Arena, Cache, Bin, Mail, Root}
+use Rattle.pool_law.specs.declared.note.Object.TheVariants.{Root}
 use Rattle.pool_law.specs.declared.note.Note.{Note}
 use Rattle.pool_law.specs.declared.note.Note.TheVariants.{At, Ref, Busy}
 use Rattle.pool_law.specs.declared.report.Leak.{Leak}
 use Rattle.pool_law.specs.declared.run.LaneLog.{LaneLog}
 use Rattle.pool_law.specs.declared.run.Shape.{Shape}
-use Rattle.pool_law.specs.Logs.{Logs, dids, history_of, entry_of, entries_of, present_in}
+use Rattle.pool_law.specs.Logs.{dids, history_of, entry_of, entries_of, present_in}
 use Rattle.pool_law.specs.Histories.{place_after}
 use Rattle.pool_law.specs.Counts.{total_of}
 use Rattle.pool_law.specs.Leaks.{births, is_live, is_sampled, keeps_records, accesses, kept_of, dropped_of, capacity_in, leak_of, lane_leaks, leaks_from}
 use Rattle.pool_law.proofs.HistoryLemmas.{history_of-is}
+use Rattle.pool_law.proofs.LogLemmas.{entry-note}
 use Rattle.run_check.specs.declared.histories.Histories.{Histories}
 use Rattle.run_check.specs.declared.tally.Totals.{Totals}
 use Rattle.run_check.specs.declared.tally.Tally.{Tally}
@@ -28,16 +29,6 @@ use Rattle.run_check.specs.Tallying.{total_sums, IsTally}
 use Rattle.run_check.specs.Reporting.{access_by, accesses_in, kept_by, dropped_by, capacity_by, leak_by, one_leak, leaks_by, leaks_in, all_leaks}
 use Rattle.run_check.proofs.TallyLemmas.{totals-counted}
 
--- an entry is of its note
-pub entry-bare : (logs : Logs) (n : Note) → (entry_of logs n).note ≡ n
-entry-bare logs (At (Arena number) k did) = refl
-entry-bare logs (At (Cache lane class) k did) = refl
-entry-bare logs (At (Bin lane) k did) = refl
-entry-bare logs (At (Mail from to) k did) = refl
-entry-bare logs (At (Root place) k did) = refl
-entry-bare logs (Ref root did) = refl
-entry-bare logs (Busy held) = refl
-
 module _ (shape : Shape) (logs : List LaneLog) (m : Histories) (tallies : List Tally)
     (are : AreHistories shape (notes_in logs) m) (sums : AllZip IsTally tallies logs) where
   total-is : (root : RootId) →
@@ -45,7 +36,7 @@ module _ (shape : Shape) (logs : List LaneLog) (m : Histories) (tallies : List T
       ≡ total_of root (entries_of (notes_in logs))
   total-is root =
       ap (λ (s : Totals). (1 + s.retains) - s.releases)
-      (totals-counted (entry_of (notes_in logs)) (entry-bare (notes_in logs)) root tallies logs sums)
+      (totals-counted (entry_of (notes_in logs)) (entry-note (notes_in logs)) root tallies logs sums)
 
   history-is : (place : ℕ) → history_in m (Root place) ≡ history_of (Root place) (notes_in logs)
   history-is place =

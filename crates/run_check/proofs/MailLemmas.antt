@@ -13,6 +13,7 @@ use Rattle.pool_law.specs.Kinds.{passing}
 use Rattle.pool_law.specs.Logs.{Logs, of_lane, own, has_history}
 use Rattle.pool_law.specs.Mails.{gone, come, posted, fetched, MailHolds}
 use Rattle.pool_law.proofs.SameLemmas.{and-first, and-second, same_parcel-is, same_parcel-refl}
+use Rattle.pool_law.proofs.ListLemmas.{front-from-places}
 use Rattle.run_check.specs.declared.mails.Passed.{Passed}
 use Rattle.run_check.specs.declared.spots.Spots.{Spots}
 use Rattle.run_check.specs.Spotting.{spots_at, laned, AreSpots}
@@ -71,15 +72,6 @@ passed-get (q ∷ ps) (suc k) p e = passed-get ps k p e
 
 same-data : (a b : Passed) → passed_data a ≡ passed_data b → a ≡ b
 same-data a b same = ap passed_of same
-
--- a list whose items stand at the same places of another is its front
-front-from-places : {X : Type 0} (xs ys : List X) →
-    ((k : ℕ) (x : X) → slice_get xs k ≡ Some x → slice_get ys k ≡ Some x) → xs ≡ take (length xs) ys
-front-from-places [] ys same = refl
-front-from-places (x ∷ xs) [] same = absurd (none-some x (same zero x refl))
-front-from-places (x ∷ xs) (y ∷ ys) same =
-    let first : y ≡ x = same_Some y x (same zero x refl) in
-    λ i. sym first i ∷ front-from-places xs ys (λ k. same (suc k)) i
 
 -- the items of a front stand at their places of the list
 get-of-take : {X : Type 0} (n : ℕ) (ys : List X) (k : ℕ) (x : X) → slice_get (take n ys) k ≡ Some x →

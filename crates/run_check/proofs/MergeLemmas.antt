@@ -1,9 +1,9 @@
 -- A history is merged from the notes of the lanes, one number after another.
-use Rattle.std.proofs.Common.{◌≡◌, ℕ, ◌+◌, Bool, true, false, List, [], ◌∷◌, ◌++◌, length, Some, None, refl, sym, ap, subst, eqb-true, eq-eqb, arith, ◌∙◌}
+use Rattle.std.proofs.Common.{◌≡◌, ℕ, ◌+◌, Bool, true, false, List, [], ◌∷◌, ◌++◌, length, Some, None, refl, sym, ap, subst, eqb-true, eq-eqb, arith, ◌∙◌, append-nil}
 use Rattle.std.specs.Prelude.{◌==◌, if◌then◌else◌}
 use Rattle.pool_law.specs.declared.note.Did.{Did}
 use Rattle.pool_law.specs.Logs.{History, numbered, with_number}
-use Rattle.pool_law.proofs.HistoryLemmas.{numbered-append, with_number-below, append-assoc, append-nil}
+use Rattle.pool_law.proofs.HistoryLemmas.{numbered-append, with_number-below, append-assoc}
 use Rattle.run_check.specs.Gathering.{AreNumbered}
 
 -- what is left once a lane's first note is merged

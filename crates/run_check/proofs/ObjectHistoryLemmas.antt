@@ -1,5 +1,5 @@
 -- The histories of objects as the program keeps them.
-use Rattle.std.proofs.Common.{◌≡◌, ℕ, Bool, ◌+◌, true, false, List, [], ◌∷◌, ◌++◌, Option, Some, None, Vec, append_assoc, refl, sym, ap, subst, ◌∙◌}
+use Rattle.std.proofs.Common.{◌≡◌, ℕ, Bool, ◌+◌, true, false, List, [], ◌∷◌, ◌++◌, Option, Some, None, Vec, refl, sym, ap, subst, ◌∙◌}
 use Rattle.std.specs.Prelude.{if◌then◌else◌, is_some, option_map, MatchOption}
 use Rattle.std.specs.BTreeMap.{get, is_at}
 use Rattle.std.specs.declared.alloc.Global.{Global}
@@ -15,9 +15,8 @@ use Rattle.pool_law.specs.Histories.{accepts, arena_after, place_after}
 use Rattle.pool_law.specs.Logs.{Logs, History, dids, of_lane, own, IsHistory, has_history, history_of}
 use Rattle.pool_law.specs.Mails.{MailHolds}
 use Rattle.pool_law.specs.Arenas.{Arena}
-use Rattle.pool_law.specs.declared.report.ChunkEnd.{ChunkEnd}
-use Rattle.pool_law.specs.Legal.{ends_of, arena_ends, ends_from}
-use Rattle.pool_law.proofs.HistoryLemmas.{append-nil, own-append, history_of-is}
+use Rattle.pool_law.specs.Legal.{ends_of, arena_ends}
+use Rattle.pool_law.proofs.HistoryLemmas.{own-append, history_of-is}
 use Rattle.pool_law.proofs.SameLemmas.{same_object-is}
 use Rattle.object_steps.specs.declared.told.PlaceTold.{PlaceTold}
 use Rattle.run_check.specs.declared.histories.ObjectHistory.{ObjectHistory}
@@ -32,8 +31,9 @@ use Rattle.run_check.specs.Mailing.{IsHeldMail}
 use Rattle.run_check.specs.Fronts.{IsBrokenAt, StopsAt, AcceptsSoMany}
 use Rattle.run_check.specs.Storing.{told_of, TellsOf, IsObjectHistory, ObjectHolds, object_history_in, has_object_history, dones_of, told_by_object_history, history_in, AreStories, Keeps, Covers, AreHistories}
 use Rattle.run_check.proofs.FrontLemmas.{whole-front}
-use Rattle.run_check.proofs.BrokenLemmas.{accepts-nothing, accepts-less, refused-at}
+use Rattle.run_check.proofs.BrokenLemmas.{accepts-less, refused-at}
 use Rattle.pool_law.proofs.PatternLemmas.{same_object-refl}
+use Rattle.pool_law.proofs.LogLemmas.{accepts-nothing}
 use Rattle.run_check.proofs.KeyLemmas.{is_at-object}
 use Rattle.run_check.proofs.MailLemmas.{no-mail, unused-holds}
 
@@ -239,11 +239,3 @@ covers-push m ns n before here object absent =
 
 pub keeps-both : (a b c : Histories) → Keeps a b → Keeps b c → Keeps a c
 keeps-both a b c first second object has = second object (first object has)
-
--- the chunks of one more arena
-pub ends-push : (shape : Shape) (logs : Logs) (numbers : List ℕ) (n : ℕ) →
-    ends_from shape logs (numbers ++ n ∷ []) ≡ ends_from shape logs numbers ++ arena_ends shape logs n
-ends-push shape logs [] n = append-nil (arena_ends shape logs n)
-ends-push shape logs (x ∷ numbers) n =
-    ap (λ (xs : List ChunkEnd). arena_ends shape logs x ++ xs) (ends-push shape logs numbers n)
-    ∙ sym (append_assoc (arena_ends shape logs x) (ends_from shape logs numbers) (arena_ends shape logs n))

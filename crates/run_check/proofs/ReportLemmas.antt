@@ -1,9 +1,8 @@
 -- A report as it is read, leak by leak.
-use Rattle.std.proofs.Common.{◌≡◌, ℕ, ◌+◌, ◌<◌, ◌≤◌, List, [], ◌∷◌, ◌++◌, length, get_or, take, Some, None, append_assoc, sym, ap, subst, arith, ◌∙◌}
+use Rattle.std.proofs.Common.{◌≡◌, ℕ, ◌+◌, ◌<◌, ◌≤◌, List, [], ◌∷◌, ◌++◌, length, get_or, take, Some, None, append_assoc, sym, ap, subst, arith, ◌∙◌, append-nil}
 use Rattle.std.proofs.lemmas.List.{take_all, take_more}
 use Rattle.std.proofs.lemmas.Option.{same_Some}
 use Rattle.pool_law.specs.declared.report.Leak.{Leak}
-use Rattle.pool_law.proofs.HistoryLemmas.{append-nil}
 use Rattle.pool_law.proofs.ListLemmas.{slice_get-past}
 use Rattle.run_check.specs.Placing.{DifferAt}
 use Rattle.run_check.specs.Reporting.{GoesOn, Strays}

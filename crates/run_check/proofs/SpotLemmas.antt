@@ -1,5 +1,5 @@
 -- The notes of lanes, by object.
-use Rattle.std.proofs.Common.{◌≡◌, ℕ, zero, suc, Bool, true, false, List, [], ◌∷◌, ◌++◌, Option, Some, None, Vec, refl, sym, ap, ◌∙◌}
+use Rattle.std.proofs.Common.{◌≡◌, ℕ, zero, suc, Bool, true, false, List, [], ◌∷◌, ◌++◌, Option, Some, None, Vec, refl, sym, ap, ◌∙◌, append-nil}
 use Rattle.std.specs.Prelude.{if◌then◌else◌}
 use Rattle.std.specs.List.{AllZip}
 use Rattle.std.proofs.lemmas.List.{map-append}
@@ -12,15 +12,14 @@ use Rattle.pool_law.specs.declared.run.LaneLog.{LaneLog}
 use Rattle.pool_law.specs.Same.{same_object}
 use Rattle.pool_law.specs.declared.note.Note.TheVariants.{At}
 use Rattle.pool_law.specs.Logs.{own, own_note}
-use Rattle.pool_law.proofs.HistoryLemmas.{append-nil}
-use Rattle.pool_law.proofs.SameLemmas.{same_object-is}
+use Rattle.pool_law.proofs.SameLemmas.{same_object-is, same_object-swap}
 use Rattle.run_check.specs.declared.gathering.HistoryNote.{HistoryNote}
 use Rattle.run_check.specs.declared.spots.Spots.{Spots}
 use Rattle.lane_reader.specs.Counting.{key_cmp}
 use Rattle.run_check.specs.Keying.{object_key}
 use Rattle.run_check.specs.Gathering.{spot_data, spots_behind, left_of}
 use Rattle.run_check.specs.Spotting.{spots_in, spots_at, notes_in, laned, AreSpots}
-use Rattle.run_check.proofs.KeyLemmas.{is_at-object, same-object-swap}
+use Rattle.run_check.proofs.KeyLemmas.{is_at-object}
 
 abbrev pub Found : Type 0
 Found = ℕ × ℕ × ℕ → Option (Vec HistoryNote Global)
@@ -78,7 +77,7 @@ pub spot-own : (object other : Object) (number : ℕ) (did : Did) (old new : Lis
 spot-own object other number did old new is =
     is
     ∙ go (same_object object other)
-    ∙ ap (λ (b : Bool). old ++ (if b then (number, did) ∷ [] else [])) (same-object-swap object other)
+    ∙ ap (λ (b : Bool). old ++ (if b then (number, did) ∷ [] else [])) (same_object-swap object other)
   where
     go : (b : Bool) →
         (if b then old ++ (number, did) ∷ [] else old) ≡ old ++ (if b then (number, did) ∷ [] else [])

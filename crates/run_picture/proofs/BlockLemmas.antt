@@ -1,11 +1,10 @@
 -- A history that is read from its end gives its takings, the last first.
-use Rattle.std.proofs.Common.{◌≡◌, ℕ, ◌+◌, List, [], ◌∷◌, ◌++◌, reverse, sym, ap, ◌∙◌}
+use Rattle.std.proofs.Common.{◌≡◌, ℕ, ◌+◌, List, [], ◌∷◌, ◌++◌, reverse, sym, ap, ◌∙◌, append-nil}
 use Rattle.std.specs.Prelude.{if◌then◌else◌, Option, Some, None}
 use Rattle.std.proofs.lemmas.List.{reverse-append}
 use Rattle.pool_law.specs.declared.id.RegionId.{RegionId}
 use Rattle.pool_law.specs.Arenas.{listed}
 use Rattle.pool_law.specs.Logs.{History}
-use Rattle.pool_law.proofs.HistoryLemmas.{append-nil}
 use Rattle.arena_laws.specs.Returns.{gives}
 use Rattle.run_picture.specs.declared.blocks.Return.{Return}
 use Rattle.run_picture.specs.declared.blocks.Block.{Block}

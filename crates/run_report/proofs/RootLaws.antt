@@ -18,6 +18,7 @@ use Rattle.pool_law.specs.Text.{born_roots, live_in}
 use Rattle.pool_law.specs.Same.{same_root}
 use Rattle.run_report.specs.declared.roots.Step.{Step}
 use Rattle.pool_law.proofs.SameLemmas.{same_root-is}
+use Rattle.pool_law.proofs.LogLemmas.{entry-note}
 use Rattle.run_report.specs.Roots.{Key, counted, key_of, root_of, same_key, roots_in, roots_over, times}
 
 -- the notes of each lane
@@ -72,15 +73,6 @@ is_it : RootId → Option RootId → Bool
 is_it root None = false
 is_it root (Some r) = same_root r root
 
-note_is : (logs : Logs) (n : Note) → (entry_of logs n).note ≡ n
-note_is logs (Note.At (Object.Root place) number did) = refl
-note_is logs (Note.At (Object.Arena number) k did) = refl
-note_is logs (Note.At (Object.Cache lane class) k did) = refl
-note_is logs (Note.At (Object.Bin lane) k did) = refl
-note_is logs (Note.At (Object.Mail from to) k did) = refl
-note_is logs (Note.Ref root did) = refl
-note_is logs (Note.Busy held) = refl
-
 -- a test of notes is that of the root for which they are such a step
 abbrev Tests : Step → RootId → (Note → Bool) → Type 0
 Tests step root test = (n : Note) → test n ≡ is_it root (root_of step n)
@@ -125,7 +117,7 @@ module _ (all : Logs) (step : Step) (root : RootId) (test : Note → Bool) (test
   count_is : (ns : List Note) → count_in test (map (entry_of all) ns) ≡ times (roots_in step ns) root
   count_is [] = refl
   count_is (n ∷ ns) =
-      ap (λ (m : Note). (if test m then 1 else 0) + count_in test (map (entry_of all) ns)) (note_is all n)
+      ap (λ (m : Note). (if test m then 1 else 0) + count_in test (map (entry_of all) ns)) (entry-note all n)
       ∙ ap (λ (b : Bool). (if b then 1 else 0) + count_in test (map (entry_of all) ns)) (tests n)
       ∙ ap (λ (k : ℕ). (if is_it root (root_of step n) then 1 else 0) + k) (count_is ns)
       ∙ sym (times-cons (root_of step n) (roots_in step ns))

@@ -1,11 +1,13 @@
 -- Circles of a graph.
-use Rattle.std.proofs.Common.{◌≡◌, ◌<◌, ◌≤◌, ◌+◌, ◌-◌, Bool, true, false, ℕ, zero, suc, List, [], ◌∷◌, length, drop, Some, refl, sym, ap, arith, ◌∙◌, subst, eqb-true, eq-eqb}
+use Rattle.std.proofs.Common.{◌≡◌, ◌<◌, ◌≤◌, ◌+◌, ◌-◌, true, ℕ, zero, suc, List, [], ◌∷◌, length, drop, Some, sym, ap, arith, ◌∙◌, subst, eqb-true, eq-eqb}
+use Rattle.std.proofs.lemmas.Option.{same_Some}
 use Rattle.std.specs.Prelude.{◌==◌, if◌then◌else◌, slice_get}
+use Rattle.std.proofs.lemmas.Bool.{cond_both}
 use Rattle.topo_order.specs.Sorting.{Graph, MustPrecede, IsOrder, IsCircle}
 use Rattle.topo_order.specs.Walking.{IsMarked, IsWalk}
 use Rattle.topo_order.specs.declared.walk.Mark.{Mark}
 use Rattle.topo_order.specs.declared.walk.Mark.TheVariants.{Open}
-use Rattle.topo_order.proofs.Lists.{item, within, get_drop, length_drop, same_some}
+use Rattle.topo_order.proofs.Lists.{item, within, get_drop, length_drop}
 
 -- numbers that fall along a circle come to no end
 module _ (graph : Graph) (circle : List ℕ) (c : IsCircle graph circle) (rank : ℕ → ℕ)
@@ -14,7 +16,7 @@ module _ (graph : Graph) (circle : List ℕ) (c : IsCircle graph circle) (rank :
   falls-from : (k node first : ℕ) → slice_get circle zero ≡ Some first → slice_get circle k ≡ Some node
       → rank node ≤ rank first
   falls-from zero node first at is =
-      let same : first ≡ node = same_some _ _ (sym at ∙ is) in omega (arith, ap rank same)
+      let same : first ≡ node = same_Some _ _ (sym at ∙ is) in omega (arith, ap rank same)
   falls-from (suc k) node first at is =
       let low = within circle (suc k) node is in
       let before = item circle k (omega (arith, low)) in
@@ -43,9 +45,9 @@ path-closes graph marks path order node next d t w is end must = record {
   closes = λ k last first all at start.
       let place : d + k ≡ length path - 1 = omega (arith, all, length_drop path d, low) in
       let one : node ≡ last =
-      same_some _ _ (sym end ∙ ap (slice_get path) (sym place) ∙ sym (get_drop path d k) ∙ at) in
+      same_Some _ _ (sym end ∙ ap (slice_get path) (sym place) ∙ sym (get_drop path d k) ∙ at) in
       let other : next ≡ first =
-      same_some _ _ (sym (w.on_path next d t is) ∙ ap (slice_get path) here ∙ sym (get_drop path d zero) ∙ start) in
+      same_Some _ _ (sym (w.on_path next d t is) ∙ ap (slice_get path) here ∙ sym (get_drop path d zero) ∙ start) in
       subst (λ z. MustPrecede graph z last) other (subst (λ z. MustPrecede graph next z) one must);
 }
   where
@@ -63,26 +65,19 @@ place_in : List ℕ → ℕ → ℕ
 place_in [] x = 0
 place_in (y ∷ ys) x = if y == x then 0 else suc (place_in ys x)
 
-by-test : (P : Bool → Type 0) (b : Bool) → (b ≡ true → P true) → (b ≡ false → P false) → P b
-by-test P true passes fails = passes refl
-by-test P false passes fails = fails refl
-
 place-there : (xs : List ℕ) (j x : ℕ) → slice_get xs j ≡ Some x
     → (place_in xs x ≤ j) × (slice_get xs (place_in xs x) ≡ Some x)
 unfolding place_in
 place-there [] j x e = absurd (cc e)
 place-there (y ∷ ys) zero x e =
-    let same : y ≡ x = same_some _ _ e in
+    let same : y ≡ x = same_Some _ _ e in
     let test : (y == x) ≡ true = eq-eqb y x same in (
       omega (arith, ap (λ z. if z then 0 else suc (place_in ys x)) test),
       ap (λ z. slice_get (y ∷ ys) (if z then 0 else suc (place_in ys x))) test ∙ e,
     )
 place-there (y ∷ ys) (suc j) x e =
     let r = place-there ys j x e in
-    by-test
-    (λ z. ((if z then 0 else suc (place_in ys x)) ≤ suc j)
-    × (slice_get (y ∷ ys) (if z then 0 else suc (place_in ys x)) ≡ Some x))
-    (y == x)
+    cond_both {A = ℕ} (y == x) 0 (suc (place_in ys x)) (λ n. (n ≤ suc j) × (slice_get (y ∷ ys) n ≡ Some x))
     (λ test. (omega arith, ap Some (eqb-true y x test)))
     (λ _. (omega (arith, r.0), r.1))
 

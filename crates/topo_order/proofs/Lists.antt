@@ -1,9 +1,7 @@
 -- Elements of lists by their places.
-use Rattle.std.proofs.Common.{◌≡◌, ◌≢◌, ◌<◌, ◌≤◌, ◌⊎◌, inl, inr, ⊎_elim, ℕ, zero, suc, ◌+◌, ◌-◌, List, [], ◌∷◌, ◌++◌, set, take, drop, length, Some, refl, ap, subst, sym, arith, ◌∙◌}
-use Rattle.std.specs.Prelude.{slice_get, unwrap_or}
-
-pub same_some : {X : Type 0} (x y : X) → Some x ≡ Some y → x ≡ y
-same_some x y e = ap (λ o. unwrap_or o x) e
+use Rattle.std.proofs.Common.{◌≡◌, ◌≢◌, ◌<◌, ◌⊎◌, inl, inr, ⊎_elim, ℕ, zero, suc, ◌+◌, ◌-◌, List, [], ◌∷◌, ◌++◌, set, take, drop, length, Some, refl, ap, sym, arith, ◌∙◌}
+use Rattle.std.specs.Prelude.{slice_get}
+use Rattle.std.proofs.lemmas.Option.{same_Some}
 
 pub within : {X : Type 0} (xs : List X) (k : ℕ) (x : X) → slice_get xs k ≡ Some x → k < length xs
 within [] k x e = absurd (cc)
@@ -31,13 +29,13 @@ get_set_other (y ∷ ys) (suc i) (suc j) x h = get_set_other ys i j x (λ e. h (
 pub get_kept : {X : Type 0} (xs : List X) (i j : ℕ) (old new x : X) → slice_get xs i ≡ Some old
     → slice_get xs j ≡ Some x → (old ≡ x → ⊥) → slice_get (set xs i new) j ≡ Some x
 get_kept xs i j old new x was is other =
-    get_set_other xs i j new (λ e. other (same_some _ _ (sym was ∙ ap (slice_get xs) (sym e) ∙ is))) ∙ is
+    get_set_other xs i j new (λ e. other (same_Some _ _ (sym was ∙ ap (slice_get xs) (sym e) ∙ is))) ∙ is
 
 -- an element of a list of which one was set is the new one, or it stood there before
 pub set_cases : {X : Type 0} (xs : List X) (i : ℕ) (v : X) (j : ℕ) (x : X) → slice_get (set xs i v) j ≡ Some x
     → ((j ≡ i) × (v ≡ x)) ⊎ (slice_get xs j ≡ Some x)
 set_cases [] i v j x e = inr e
-set_cases (y ∷ ys) zero v zero x e = inl (refl, same_some _ _ e)
+set_cases (y ∷ ys) zero v zero x e = inl (refl, same_Some _ _ e)
 set_cases (y ∷ ys) zero v (suc j) x e = inr e
 set_cases (y ∷ ys) (suc i) v zero x e = inr e
 set_cases (y ∷ ys) (suc i) v (suc j) x e = ⊎_elim (λ h. inl (ap suc h.0, h.1)) inr (set_cases ys i v j x e)
@@ -45,7 +43,7 @@ set_cases (y ∷ ys) (suc i) v (suc j) x e = ⊎_elim (λ h. inl (ap suc h.0, h.
 -- an element behind which one more was pushed
 pub pushed : {X : Type 0} (xs : List X) (y : X) (i : ℕ) (x : X) → slice_get (xs ++ y ∷ []) i ≡ Some x
     → (slice_get xs i ≡ Some x) ⊎ ((i ≡ length xs) × (y ≡ x))
-pushed [] y zero x e = inr (refl, same_some _ _ e)
+pushed [] y zero x e = inr (refl, same_Some _ _ e)
 pushed [] y (suc i) x e = inl e
 pushed (z ∷ xs) y zero x e = inl e
 pushed (z ∷ xs) y (suc i) x e = ⊎_elim inl (λ h. inr (ap suc h.0, h.1)) (pushed xs y i x e)

@@ -4,12 +4,12 @@ use Rattle.std.specs.Prelude.{slice_get, Vec}
 use Rattle.std.specs.declared.alloc.Global.{Global}
 use Rattle.std.proofs.lemmas.Bool.{cases_eq, cases_lt}
 use Rattle.std.proofs.lemmas.List.{length-set}
-use Rattle.std.proofs.lemmas.Option.{slice_get_read}
+use Rattle.std.proofs.lemmas.Option.{slice_get_read, same_Some}
 use Rattle.topo_order.specs.Sorting.{Graph, MustPrecede, IsOrder}
 use Rattle.topo_order.specs.Walking.{IsMarked, AreTried, IsWalk, weight, left_of}
 use Rattle.topo_order.specs.declared.walk.Mark.{Mark}
 use Rattle.topo_order.specs.declared.walk.Mark.TheVariants.{New, Open, Done}
-use Rattle.topo_order.proofs.Lists.{same_some, within, item, get_set, get_set_other, get_kept, set_cases, pushed, pushed_before, pushed_last, in_front, front_has}
+use Rattle.topo_order.proofs.Lists.{within, item, get_set, get_set_other, get_kept, set_cases, pushed, pushed_before, pushed_last, in_front, front_has}
 
 -- below the next number is what is below this one, and this one
 pub below-or : (i t : ℕ) → i < t + 1 → (i < t) ⊎ (i ≡ t)
@@ -111,7 +111,7 @@ advances graph marks path order node d t k next needs w is has at done = record 
       (set_cases marks node mark v (Done j) at);
   tried = λ v e s others at owns. ⊎_elim
       (λ here. let more : t + 1 ≡ s = cc here.1 in
-      let same : needs ≡ others = same_some _ _ (sym has ∙ ap (slice_get graph) (sym here.0) ∙ owns) in
+      let same : needs ≡ others = same_Some _ _ (sym has ∙ ap (slice_get graph) (sym here.0) ∙ owns) in
       subst (AreTried (set marks node mark) others.items) more
       (subst (λ (z : Vec ℕ Global). AreTried (set marks node mark) z.items (t + 1)) same tried-more))
       (λ old. still-tried marks node (Open d t) mark others.items s is (λ j e. cc) (w.tried v e s others old owns))
@@ -128,7 +128,7 @@ advances graph marks path order node d t k next needs w is has at done = record 
 
     w-depth : (e v s : ℕ) → slice_get path e ≡ Some v → v ≡ node → IsMarked marks v (Open e s) → d ≡ e
     w-depth e v s at same opened =
-        let both : Open d t ≡ Open e s = same_some _ _ (sym is ∙ ap (slice_get marks) (sym same) ∙ opened) in cc both
+        let both : Open d t ≡ Open e s = same_Some _ _ (sym is ∙ ap (slice_get marks) (sym same) ∙ opened) in cc both
 
     tried-more : AreTried (set marks node mark) needs.items (t + 1)
     tried-more = record {
@@ -136,7 +136,7 @@ advances graph marks path order node d t k next needs w is has at done = record 
       done = λ i first low here. ⊎_elim
           (λ old. let r = (w.tried node d t needs is has).done i first old here in
           (r.0, stays-done marks node first r.0 (Open d t) mark is (λ e. cc) r.1))
-          (λ last. let same : next ≡ first = same_some _ _ (sym at ∙ ap (slice_get needs.items) (sym last) ∙ here) in (
+          (λ last. let same : next ≡ first = same_Some _ _ (sym at ∙ ap (slice_get needs.items) (sym last) ∙ here) in (
             k,
             stays-done marks node first k (Open d t) mark is (λ e. cc)
                 (subst (λ z. IsMarked marks z (Done k)) same done),
@@ -183,7 +183,7 @@ closes graph marks path order node d t needs w is last has all = record {
       (λ old. let r = w.forward first v j must old in
       (r.0, r.1, pushed_before order node r.0 first r.2))
       (λ here.
-      let same : must.0 ≡ needs = same_some _ _ (sym must.2 ∙ ap (slice_get graph) (sym here.1) ∙ has) in
+      let same : must.0 ≡ needs = same_Some _ _ (sym must.2 ∙ ap (slice_get graph) (sym here.1) ∙ has) in
       let stands : slice_get needs.items must.1 ≡ Some first =
       subst (λ (z : Vec ℕ Global). slice_get z.items must.1 ≡ Some first) same must.3 in
       let r = (w.tried node d t needs is has).done must.1 first
@@ -205,8 +205,8 @@ closes graph marks path order node d t needs w is last has all = record {
         (λ high.
         let low = within path e v on in
         let end : e ≡ d = omega (arith, low, high, last) in
-        let same : v ≡ node = same_some _ _ (sym on ∙ ap (slice_get path) end ∙ w.on_path node d t is) in
-        let both : mark ≡ Open e s = same_some _ _ (sym (get_set marks node mark there)
+        let same : v ≡ node = same_Some _ _ (sym on ∙ ap (slice_get path) end ∙ w.on_path node d t is) in
+        let both : mark ≡ Open e s = same_Some _ _ (sym (get_set marks node mark there)
         ∙ ap (slice_get (set marks node mark)) (sym same) ∙ at) in
         absurd (cc both))
         (cases_lt e (length path - 1))
@@ -220,9 +220,9 @@ leaves-less graph [] node old new needs is has less = absurd (cc is)
 leaves-less [] (m ∷ marks) node old new needs is has less = absurd (cc has)
 leaves-less (n ∷ graph) (m ∷ marks) zero old new needs is has less =
     let was : weight m (length n.items) ≡ weight old (length needs.items) =
-    λ i. weight (same_some _ _ is i) (length (same_some _ _ has i).items) in
+    λ i. weight (same_Some _ _ is i) (length (same_Some _ _ has i).items) in
     let now : weight new (length n.items) ≡ weight new (length needs.items) =
-    λ i. weight new (length (same_some _ _ has i).items) in
+    λ i. weight new (length (same_Some _ _ has i).items) in
     omega (arith, was, now, less)
 leaves-less (n ∷ graph) (m ∷ marks) (suc node) old new needs is has less =
     omega (arith, leaves-less graph marks node old new needs is has less)
@@ -233,7 +233,7 @@ pub last-depth : (graph : Graph) (marks : List Mark) (path order : List ℕ) (no
     → IsMarked marks node (Open d t) → suc d ≡ length path
 last-depth graph marks path order node d t w some end is =
     let r = w.opened (length path - 1) node end in
-    let both : Open d t ≡ Open (length path - 1) r.0 = same_some _ _ (sym is ∙ r.1) in
+    let both : Open d t ≡ Open (length path - 1) r.0 = same_Some _ _ (sym is ∙ r.1) in
     let depth : d ≡ length path - 1 = cc both in
     omega (arith, depth, some)
 
@@ -246,7 +246,7 @@ kept-new marks node v new other at =
 -- a node that is marked otherwise is not new
 pub not-new : (marks : List Mark) (node : ℕ) (new : Mark) → node < length marks → (new ≡ New → ⊥)
     → IsMarked (set marks node new) node New → ⊥
-not-new marks node new low other at = other (same_some _ _ (sym (get_set marks node new low) ∙ at))
+not-new marks node new low other at = other (same_Some _ _ (sym (get_set marks node new low) ∙ at))
 
 -- what the walk reads at the last node of its path
 pub record AtEnd (graph : Graph) (marks : List Mark) (path order : List ℕ) (node d t : ℕ)
@@ -297,7 +297,7 @@ is-order graph marks path order w empty none = record {
       by-mark node m.0 low m.1;
   nodes = λ k node at. omega (arith, within marks node (Done k) (w.done k node at), w.as_many);
   once = λ j k node at other.
-      let both : Done j ≡ Done k = same_some _ _ (sym (w.done j node at) ∙ w.done k node other) in cc both;
+      let both : Done j ≡ Done k = same_Some _ _ (sym (w.done j node at) ∙ w.done k node other) in cc both;
   forward = w.forward;
 }
   where

@@ -1,17 +1,14 @@
 -- Elements of lists by their places.
 use Rattle.std.proofs.Common.{◌≡◌, ◌<◌, ◌⊎◌, inl, inr, ⊎_elim, ℕ, zero, suc, ◌+◌, List, [], ◌∷◌, ◌++◌, set, get_or, drop, length, Some, refl, sym, ap, ◌∙◌, subst, arith}
-use Rattle.std.specs.Prelude.{All, slice_get, unwrap_or}
-use Rattle.std.proofs.lemmas.Option.{get_or_from_slice_get, slice_get-get_or, slice_get_read, slice_get_within, unwrap_or-slice_get}
-use Rattle.std.proofs.lemmas.List.{drop-drop, get_or-drop, get_or_read}
-
-pub same_some : {X : Type 0} (x y : X) → Some x ≡ Some y → x ≡ y
-same_some x y e = ap (λ o. unwrap_or o x) e
+use Rattle.std.specs.Prelude.{All, slice_get}
+use Rattle.std.proofs.lemmas.Option.{get_or_from_slice_get, slice_get-get_or, slice_get_read, slice_get_within, same_Some}
+use Rattle.std.proofs.lemmas.List.{drop-drop, get_or-drop}
 
 -- an element of a list of which one was set is the new one, or it stood there before
 pub set_cases : {X : Type 0} (xs : List X) (i : ℕ) (v : X) (j : ℕ) (x : X) → slice_get (set xs i v) j ≡ Some x
     → ((j ≡ i) × (v ≡ x)) ⊎ (slice_get xs j ≡ Some x)
 set_cases [] i v j x e = inr e
-set_cases (y ∷ ys) zero v zero x e = inl (refl, same_some _ _ e)
+set_cases (y ∷ ys) zero v zero x e = inl (refl, same_Some _ _ e)
 set_cases (y ∷ ys) zero v (suc j) x e = inr e
 set_cases (y ∷ ys) (suc i) v zero x e = inr e
 set_cases (y ∷ ys) (suc i) v (suc j) x e = ⊎_elim (λ h. inl (ap suc h.0, h.1)) inr (set_cases ys i v j x e)
@@ -19,13 +16,13 @@ set_cases (y ∷ ys) (suc i) v (suc j) x e = ⊎_elim (λ h. inl (ap suc h.0, h.
 -- setting what stands there changes nothing
 pub set_same : {X : Type 0} (xs : List X) (i : ℕ) (x : X) → slice_get xs i ≡ Some x → set xs i x ≡ xs
 set_same [] i x e = refl
-set_same (y ∷ ys) zero x e = λ k. same_some _ _ (sym e) k ∷ ys
+set_same (y ∷ ys) zero x e = λ k. same_Some _ _ (sym e) k ∷ ys
 set_same (y ∷ ys) (suc i) x e = λ k. y ∷ set_same ys i x e k
 
 -- an element behind which one more was pushed
 pub pushed : {X : Type 0} (xs : List X) (y : X) (i : ℕ) (x : X) → slice_get (xs ++ y ∷ []) i ≡ Some x
     → (slice_get xs i ≡ Some x) ⊎ ((i ≡ length xs) × (y ≡ x))
-pushed [] y zero x e = inr (refl, same_some _ _ e)
+pushed [] y zero x e = inr (refl, same_Some _ _ e)
 pushed [] y (suc i) x e = inl e
 pushed (z ∷ xs) y zero x e = inl e
 pushed (z ∷ xs) y (suc i) x e = ⊎_elim inl (λ h. inr (ap suc h.0, h.1)) (pushed xs y i x e)

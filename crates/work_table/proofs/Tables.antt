@@ -2,8 +2,9 @@
 use Rattle.std.proofs.Common.{◌≡◌, ◌≢◌, ◌<◌, ⊎_elim, inl, inr, ℕ, zero, suc, ◌+◌, List, [], ◌∷◌, ◌++◌, drop, set, take, map, Option, Some, None, refl, sym, ap, ◌∙◌, subst, arith}
 use Rattle.std.specs.Prelude.{All, slice_get}
 use Rattle.std.proofs.lemmas.Bool.{cases_lt}
+use Rattle.std.proofs.lemmas.Option.{same_Some}
 use Rattle.work_table.specs.Places.{AllStand, BelongsAt, EachCame, IsSameRelation, empties}
-use Rattle.work_table.proofs.Places.{at_all, same_some, set_cases}
+use Rattle.work_table.proofs.Places.{at_all, set_cases}
 
 -- a machine goes out
 pub empties_out : {M : Type 0} (places : List (Option M)) (i : ℕ) (m : M) → slice_get places i ≡ Some (Some m)
@@ -33,7 +34,7 @@ pub stand_in : {M : Type 0} (comes : M → M → Type 0) (firsts : List M) (plac
 stand_in {M} comes firsts places i m all belongs j x e =
     ⊎_elim
     (λ (h : (j ≡ i) × (Some m ≡ Some x)).
-    subst (λ (p : ℕ × M). BelongsAt comes firsts p.0 p.1) (λ k. (sym h.0 k, same_some m x h.1 k)) belongs)
+    subst (λ (p : ℕ × M). BelongsAt comes firsts p.0 p.1) (λ k. (sym h.0 k, same_Some m x h.1 k)) belongs)
     (λ before. all j x before)
     (set_cases places i (Some m) j (Some x) e)
 
@@ -45,7 +46,7 @@ all_stand {M} comes firsts machines all i m e = all i m (taken machines i m e)
     taken : (machines : List M) (i : ℕ) (m : M) → slice_get (map Some machines) i ≡ Some (Some m)
         → slice_get machines i ≡ Some m
     taken [] i m e = absurd (cc)
-    taken (x ∷ xs) zero m e = same_some _ _ e
+    taken (x ∷ xs) zero m e = same_Some _ _ e
     taken (x ∷ xs) (suc i) m e = taken xs i m e
 
 pub empties_full : {M : Type 0} (machines : List M) → empties (map Some machines) ≡ 0
@@ -69,7 +70,7 @@ each_came {M} comes firsts machines places is all i m e =
 -- the front of a list, and one more
 take_more : {X : Type 0} (xs : List X) (n : ℕ) (x : X) → slice_get xs n ≡ Some x → take (suc n) xs ≡ take n xs ++ x ∷ []
 take_more [] n x e = absurd (cc)
-take_more (y ∷ ys) zero x e = λ k. same_some y x e k ∷ []
+take_more (y ∷ ys) zero x e = λ k. same_Some y x e k ∷ []
 take_more (y ∷ ys) (suc n) x e = λ k. y ∷ take_more ys n x e k
 
 next_take : {X : Type 0} (xs : List X) (n : ℕ) → take (suc n) xs ≡ take (n + 1) xs

@@ -1,7 +1,7 @@
 use Rattle.std.proofs.Common.{◌≡◌, Some, sym, ap, ◌∙◌}
+use Rattle.std.proofs.lemmas.Option.{same_Some}
 use Rattle.std.specs.Prelude.{slice_get}
 use Rattle.std.specs.BTreeMap.{get}
-use Rattle.topo_order.proofs.Lists.{same_some}
 use Rattle.log_order.specs.Indexing.{stage_cmp, nodes_in, listed}
 use Rattle.log_order.proofs.making.link_stage.Goals as goal
 
@@ -16,7 +16,7 @@ returns c =
       spots = e.spots;
       keeps = e.keeps;
       holds = λ s k first same at.
-          let one : c.in-Some.stage ≡ s = same_some _ _ (sym c.in-Some.is ∙ same) in
+          let one : c.in-Some.stage ≡ s = same_Some _ _ (sym c.in-Some.is ∙ same) in
           let nodes : c.deref.result.now ≡ listed index s =
           c.deref.ensures.value ∙ ap nodes_in value ∙ ap (listed index) one in
           e.holds k first (ap (λ xs. slice_get xs k) nodes ∙ at);

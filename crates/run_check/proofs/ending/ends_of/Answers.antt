@@ -2,7 +2,7 @@ use Rattle.std.proofs.Common.{◌≡◌, ℕ, suc, ◌+◌, List, ◌++◌, sym,
 use Rattle.size_classes.specs.Sizes.{below}
 use Rattle.pool_law.specs.declared.report.ChunkEnd.{ChunkEnd}
 use Rattle.pool_law.specs.Legal.{arena_ends, ends_from}
-use Rattle.run_check.proofs.ObjectHistoryLemmas.{ends-push}
+use Rattle.pool_law.proofs.LogLemmas.{ends-push}
 use Rattle.run_check.proofs.ending.ends_of.Goals as goal
 
 pub loop-number-preserved : goal.loop-number-preserved

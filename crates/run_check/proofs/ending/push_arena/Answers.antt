@@ -1,4 +1,4 @@
-use Rattle.std.proofs.Common.{◌≡◌, List, ◌++◌, Some, None, sym, ap, ◌∙◌}
+use Rattle.std.proofs.Common.{◌≡◌, List, ◌++◌, Some, None, sym, ap, ◌∙◌, append-nil}
 use Rattle.std.proofs.lemmas.Result.{on_ok_weaker}
 use Rattle.size_classes.specs.Sizes.{Geometry}
 use Rattle.pool_law.specs.declared.report.ChunkEnd.{ChunkEnd}
@@ -6,7 +6,6 @@ use Rattle.pool_law.specs.declared.note.Object.{Object}
 use Rattle.pool_law.specs.Logs.{dids}
 use Rattle.pool_law.specs.Arenas.{chunk_ends}
 use Rattle.pool_law.specs.Histories.{arena_after}
-use Rattle.pool_law.proofs.HistoryLemmas.{append-nil}
 use Rattle.object_steps.specs.Behind.{dids_behind}
 use Rattle.run_check.specs.Storing.{history_in}
 use Rattle.run_check.proofs.ObjectHistoryLemmas.{ends-are}

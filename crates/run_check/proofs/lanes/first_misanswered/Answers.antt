@@ -5,10 +5,11 @@ use Rattle.pool_law.specs.declared.run.Shape.{Shape}
 use Rattle.pool_law.specs.Logs.{ToldNote, of_lane, entries_of}
 use Rattle.pool_law.specs.LaneLaw.{IsLaneLog}
 use Rattle.pool_law.specs.Legal.{AreCommands}
+use Rattle.pool_law.proofs.LogLemmas.{lane-at}
 use Rattle.lane_reader.specs.Unlike.{IsUnlikeAt}
 use Rattle.run_check.specs.Spotting.{notes_in}
 use Rattle.run_check.specs.Spotting.{replies_in}
-use Rattle.run_check.proofs.LaneLemmas.{lane-at, replies-get}
+use Rattle.run_check.proofs.LaneLemmas.{replies-get}
 use Rattle.run_check.proofs.lanes.first_misanswered.Goals as goal
 
 -- the same command breaks the law of the same commands, replies and entries

@@ -2,13 +2,13 @@ use Rattle.std.proofs.Common.{rules, ◌≡◌, ℕ, ◌≤◌, List, length, sy
 use Rattle.pool_law.specs.declared.id.RootId.{RootId}
 use Rattle.pool_law.specs.Logs.{ToldNote, of_lane, entry_of, entries_of}
 use Rattle.pool_law.specs.Legal.{LooksHold, others_retains}
+use Rattle.pool_law.proofs.LogLemmas.{entry-note}
 use Rattle.lane_reader.specs.Reading.{entries}
 use Rattle.run_check.specs.Placing.{BreaksAt}
 use Rattle.run_check.specs.Spotting.{notes_in}
 use Rattle.run_check.specs.Tallying.{others_sum}
 use Rattle.run_check.proofs.FirstLemmas.{found-first}
 use Rattle.run_check.proofs.LaneLemmas.{each-lane, length-entries}
-use Rattle.run_check.proofs.LeakLemmas.{entry-bare}
 use Rattle.run_check.proofs.TallyLemmas.{others-counted}
 use Rattle.run_check.proofs.lanes.first_mislooked.Goals as goal
 
@@ -20,7 +20,7 @@ returns-in-Some c =
     let sums : (λ (root : RootId). others_sum root lane 0 c.args.tallies.now)
     ≡ (λ (root : RootId). others_retains root lane 0 (entries_of logs)) =
     (λ i root.
-    others-counted (entry_of logs) (entry-bare logs) root lane 0 c.args.tallies.now c.args.logs.now c.requires.tallies
+    others-counted (entry_of logs) (entry-note logs) root lane 0 c.args.tallies.now c.args.logs.now c.requires.tallies
     i) in
     found-first
     (λ k (ws : List ToldNote). (root : RootId) → LooksHold root (others_retains root k 0 (entries_of logs)) 0 0 0 ws)
@@ -47,7 +47,7 @@ loop-lane-preserved c =
     subst (λ (es : List ToldNote). LooksHold root (others_retains root lane 0 (entries_of logs)) 0 0 0 es)
     c.log_at.ensures.entries
     (subst (λ (n : ℕ). LooksHold root n 0 0 0 (entries c.log_at.result))
-    (others-counted (entry_of logs) (entry-bare logs) root lane 0 c.args.tallies.now c.args.logs.now c.requires.tallies)
+    (others-counted (entry_of logs) (entry-note logs) root lane 0 c.args.tallies.now c.args.logs.now c.requires.tallies)
     (right root)))
 
 pub returns : goal.returns

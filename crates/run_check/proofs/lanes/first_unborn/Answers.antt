@@ -3,11 +3,11 @@ use Rattle.pool_law.specs.declared.id.RootId.{RootId}
 use Rattle.pool_law.specs.declared.note.Note.{Note}
 use Rattle.pool_law.specs.Logs.{ToldNote, of_lane, entry_of, entries_of}
 use Rattle.pool_law.specs.Counts.{count_in, count_over, is_birth, names_root}
+use Rattle.pool_law.proofs.LogLemmas.{entry-note}
 use Rattle.run_check.specs.Spotting.{notes_in}
 use Rattle.run_check.specs.Tallying.{total_sums, NamesHold}
 use Rattle.run_check.proofs.FirstLemmas.{found-first, breaks-map}
 use Rattle.run_check.proofs.LaneLemmas.{notes-get, entries-lane, each-lane, length-entries}
-use Rattle.run_check.proofs.LeakLemmas.{entry-bare}
 use Rattle.run_check.proofs.TotalLemmas.{each-hold, each-back, births-are, over-born}
 use Rattle.run_check.proofs.lanes.first_unborn.Goals as goal
 
@@ -23,7 +23,7 @@ returns-in-Some c =
     let notes : List Note = c.items.result.now in
     let all = entries_of (notes_in logs) in
     let g = entry_of (notes_in logs) in
-    let bare = entry-bare (notes_in logs) in
+    let bare = entry-note (notes_in logs) in
     let right : RootId → Type 0 = λ root. 0 < (total_sums tallies root).births in
     let same : (root : RootId) → (total_sums tallies root).births ≡ count_over (is_birth root) all =
     λ root. births-are g bare tallies root logs c.requires.tallies in
@@ -48,7 +48,7 @@ loop-lane-preserved c =
     let notes : List Note = c.items.result.now in
     let all = entries_of (notes_in logs) in
     let g = entry_of (notes_in logs) in
-    let bare = entry-bare (notes_in logs) in
+    let bare = entry-note (notes_in logs) in
     let right : RootId → Type 0 = λ root. 0 < (total_sums tallies root).births in
     let here : of_lane (notes_in logs) lane ≡ notes =
     notes-get logs lane c.index-logs-lane.result (search rules) ∙ sym c.items.ensures in

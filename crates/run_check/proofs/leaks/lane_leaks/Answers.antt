@@ -1,9 +1,8 @@
-use Rattle.std.proofs.Common.{rules, arith, ◌≡◌, ℕ, ◌+◌, ◌<◌, ◌≤◌, List, [], ◌∷◌, ◌++◌, length, take, drop, append_assoc, sym, ap, ◌∙◌}
+use Rattle.std.proofs.Common.{rules, arith, ◌≡◌, ℕ, ◌+◌, ◌<◌, ◌≤◌, List, [], ◌∷◌, ◌++◌, length, take, drop, append_assoc, sym, ap, ◌∙◌, append-nil}
 use Rattle.std.proofs.lemmas.List.{drop_more, drop_all}
 use Rattle.pool_law.specs.declared.note.Note.{Note}
 use Rattle.pool_law.specs.declared.report.Leak.{Leak}
 use Rattle.pool_law.specs.Leaks.{births}
-use Rattle.pool_law.proofs.HistoryLemmas.{append-nil}
 use Rattle.run_check.specs.Reporting.{leaks_in}
 use Rattle.run_check.proofs.LeakLemmas.{leaks-front, one-birth}
 use Rattle.run_check.proofs.ReportLemmas.{goes-behind, strays-within}

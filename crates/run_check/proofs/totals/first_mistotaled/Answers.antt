@@ -5,10 +5,10 @@ use Rattle.pool_law.specs.declared.id.RootId.{RootId}
 use Rattle.pool_law.specs.declared.note.Note.{Note}
 use Rattle.pool_law.specs.Logs.{of_lane, entry_of}
 use Rattle.pool_law.specs.Counts.{is_birth}
+use Rattle.pool_law.proofs.LogLemmas.{entry-note}
 use Rattle.run_check.specs.Spotting.{notes_in}
 use Rattle.run_check.specs.Tallying.{total_sums, AreTotals, BirthsHold}
 use Rattle.run_check.proofs.LaneLemmas.{notes-at, each-notes}
-use Rattle.run_check.proofs.LeakLemmas.{entry-bare}
 use Rattle.run_check.proofs.TotalLemmas.{any-over, over-back, totals-on, totals-back}
 use Rattle.run_check.proofs.totals.first_mistotaled.Goals as goal
 
@@ -17,7 +17,7 @@ returns-in-Some c =
     let logs = c.args.logs.now in
     let tallies = c.args.tallies.now in
     let g = entry_of (notes_in logs) in
-    let bare = entry-bare (notes_in logs) in
+    let bare = entry-note (notes_in logs) in
     let root = c.in-Some.root in
     let right : RootId → Type 0 = λ r. AreTotals (total_sums tallies r) in
     let i = c.loop-log.log-index in
@@ -44,7 +44,7 @@ returns c =
     let logs = c.args.logs.now in
     let tallies = c.args.tallies.now in
     let g = entry_of (notes_in logs) in
-    let bare = entry-bare (notes_in logs) in
+    let bare = entry-note (notes_in logs) in
     let right : RootId → Type 0 = λ root. AreTotals (total_sums tallies root) in
     let each : (k : ℕ) → BirthsHold tallies (of_lane (notes_in logs) k) =
     each-notes (λ k (ns : List Note). BirthsHold tallies ns) logs c.loop-log.log-index c.loop-log.invariant

@@ -1,10 +1,11 @@
-use Rattle.std.proofs.Common.{rules, suc, ◌≡◌, ℕ, ◌-◌, ◌+◌, ◌<◌, [], ◌∷◌, ◌++◌, length, set, take, Some, refl, sym, ap, ◌∙◌, arith, subst}
+use Rattle.std.proofs.Common.{rules, suc, ◌≡◌, ℕ, ◌-◌, ◌+◌, ◌<◌, [], ◌∷◌, ◌++◌, length, set, take, Some, sym, ap, ◌∙◌, arith, subst}
+use Rattle.std.proofs.lemmas.Option.{same_Some}
 use Rattle.std.specs.Prelude.{slice_get, vec_len}
 use Rattle.topo_order.specs.Sorting.{MustPrecede}
 use Rattle.topo_order.specs.Walking.{IsWalk, IsMarked, left_of}
 use Rattle.topo_order.specs.declared.walk.Mark.{Mark}
 use Rattle.topo_order.specs.declared.walk.Mark.TheVariants.{New, Open, Done}
-use Rattle.topo_order.proofs.Lists.{within, item, same_some}
+use Rattle.topo_order.proofs.Lists.{within, item}
 use Rattle.topo_order.proofs.Circles.{path-closes}
 use Rattle.topo_order.proofs.Walks.{at-end, closes, opens, advances, leaves-less, kept-new, some-left, next-is, next-must}
 use Rattle.topo_order.proofs.walk.Walk.step.Goals as goal
@@ -154,7 +155,7 @@ returns-in_ok-open-in-New c =
     λ k last at end.
     let place : k ≡ length w.path.items - 1 = omega (arith, end) in
     let same : node ≡ last =
-    same_some _ _ (sym c.last-node.ensures ∙ ap (slice_get w.path.items) (sym place) ∙ at) in
+    same_Some _ _ (sym c.last-node.ensures ∙ ap (slice_get w.path.items) (sym place) ∙ at) in
     subst (λ z. MustPrecede g next z) same must in
     let there = item g next (c.requires.nodes next node must) in
     record {
