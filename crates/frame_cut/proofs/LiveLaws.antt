@@ -21,13 +21,13 @@ use Rattle.pool_law.specs.Logs.{Logs, entries_of, note_stands, of_lane}
 use Rattle.pool_law.specs.Mails.{fetched, gone, posted}
 use Rattle.pool_law.specs.Same.{same_object, same_root}
 use Rattle.pool_law.proofs.PatternLemmas.{same_object-refl}
+use Rattle.pool_law.proofs.HistoryLemmas.{log-past}
 use Rattle.history_laws.specs.NoteCounts.{did_fetch_of, did_post_of, view_of_root}
 use Rattle.pool_table.specs.declared.views.Entry.{Entry}
 use Rattle.pool_table.specs.declared.views.Entry.TheVariants.{At, Ref, Busy}
 use Rattle.pool_table.specs.Counts.{fetches, on_this, posts, ref_gain, ref_loss}
 use Rattle.run_laws.specs.CountLaw.{is_fetched, is_posted}
 use Rattle.run_laws.specs.Parcels.{PostsWithin, parcels_of, sum_up, unfetched, unfetched_of}
-use Rattle.run_laws.proofs.LogEntries.{log-past}
 use Rattle.run_laws.proofs.ParcelLaw.{posted-left}
 use Rattle.run_laws.proofs.Placed.{all-at}
 use Rattle.shared_pool.specs.declared.pool.SharedPool.{SharedPool}

@@ -15,9 +15,10 @@ use Rattle.pool_law.specs.Logs.{ToldNote, Logs, of_lane}
 use Rattle.pool_law.specs.Logs as logs
 use Rattle.pool_law.specs.Mails.{fetched, posted}
 use Rattle.pool_law.specs.Naming.{noted_by}
+use Rattle.pool_law.proofs.ListLemmas.{get-map, map-get}
 use Rattle.pool_table.specs.declared.views.Entry.{Entry}
 use Rattle.pool_table.specs.declared.views.Entry.TheVariants.{At, Ref, Busy}
-use Rattle.run_laws.proofs.LogEntries.{entries-at, get-map, map-get}
+use Rattle.run_laws.proofs.LogEntries.{entries-at}
 use Rattle.handed_bytes.specs.Handed.{Accesses, Fetches, Posts}
 use Rattle.shared_pool.specs.declared.seat.PoolSeat.{PoolSeat}
 use Rattle.shared_pool.specs.Closing.{AreWhole, entries_in, entry_of, logs_in, note_of}

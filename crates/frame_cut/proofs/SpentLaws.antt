@@ -6,7 +6,7 @@ use Rattle.std.proofs.lemmas.List.{nil_from_length}
 use Rattle.pool_law.specs.declared.note.Object.TheVariants.{Mail}
 use Rattle.pool_law.specs.Logs.{of_lane}
 use Rattle.pool_law.specs.Mails.{fetched, posted}
-use Rattle.run_order.proofs.Fronts.{item-at}
+use Rattle.pool_law.proofs.ListLemmas.{item-at}
 use Rattle.seat_work.specs.Changes.{times}
 use Rattle.shared_pool.specs.declared.seat.PoolSeat.{PoolSeat}
 use Rattle.shared_pool.specs.Closing.{note_of}

@@ -5,8 +5,7 @@ use Rattle.std.proofs.lemmas.List.{length-map}
 use Rattle.std.proofs.lemmas.Option.{get_or_from_slice_get, slice_get-get_or, slice_get_within}
 use Rattle.std.proofs.Math.Nat.{mod-lt}
 use Rattle.pool_law.specs.declared.run.Shape.{Shape}
-use Rattle.run_laws.proofs.LogEntries.{get-map, map-get}
-use Rattle.run_order.proofs.Fronts.{get-behind, get-front, item-at}
+use Rattle.pool_law.proofs.ListLemmas.{get-behind, get-front, item-at, get-map, map-get, get-split}
 use Rattle.shared_pool.specs.declared.seat.PoolSeat.{PoolSeat}
 use Rattle.shared_pool.specs.Closing.{AreWhole}
 use Rattle.shared_pool.specs.Seated.{AreDone, IsDone, parts_in}
@@ -19,7 +18,6 @@ use Rattle.frame_hash.specs.declared.worker.Worker.{Worker}
 use Rattle.frame_hash.specs.Hashes.{hash_of}
 use Rattle.frame_hash.specs.Takes.{WriteNothing}
 use Rattle.frame_hash.specs.Told.{joined, share_of, to_tell, told_of}
-use Rattle.frame_hash.proofs.ListParts.{either_part}
 use Rattle.frame_cutter.specs.declared.desk.Desk.{Desk}
 use Rattle.frame_cutter.specs.declared.stage.Stage.TheVariants.{Over}
 use Rattle.frame_cutter.specs.declared.stage.Verdict.TheVariants.{Whole}
@@ -63,7 +61,7 @@ module _ (shop : Shop) (d : Desk) (ws : List Worker) (seats : List PoolSeat)
   either_seat lane s e =
       ⊎_elim (λ mine. inl (map-get (λ (w : Worker). w.seat) ws lane s mine))
       (λ last. inr (last_seat last.0 last.1 last.2))
-      (either_part (map (λ (w : Worker). w.seat) ws) (d.seat ∷ []) lane s
+      (get-split (map (λ (w : Worker). w.seat) ws) (d.seat ∷ []) lane s
       (ap (λ ss. slice_get ss lane) (sym all.seats_are) ∙ e))
     where
       last_seat : (m : ℕ) → lane ≡ length (map (λ (w : Worker). w.seat) ws) + m → slice_get (d.seat ∷ []) m ≡ Some s

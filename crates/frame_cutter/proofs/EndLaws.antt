@@ -6,6 +6,7 @@ use Rattle.std.proofs.lemmas.Bool.{le-ltb, lt-ltb}
 use Rattle.std.proofs.lemmas.List.{length-take, map-append, nil_from_length, take-append-drop}
 use Rattle.pool_law.specs.declared.id.RootId.{RootId}
 use Rattle.pool_law.specs.declared.id.ViewData.{ViewData}
+use Rattle.pool_law.proofs.ListLemmas.{get-front}
 use Rattle.pool_table.specs.declared.views.Entry.{Entry}
 use Rattle.pool_table.specs.Counts.{HasCount}
 use Rattle.seat_work.specs.Changes.{once_less}
@@ -13,7 +14,6 @@ use Rattle.seat_work.specs.Hands.{empty_hand}
 use Rattle.seat_work.specs.Works.{IsLater, Proceeds}
 use Rattle.shared_pool.specs.declared.seat.PoolSeat.{PoolSeat}
 use Rattle.shared_pool.specs.SeatViews.{view_of}
-use Rattle.shared_pool.proofs.Openings.{at_left}
 use Rattle.job_queue.specs.declared.jobs.Job.TheVariants.{End}
 use Rattle.frame_core.specs.declared.frame.FrameNo.{FrameNo}
 use Rattle.frame_core.specs.declared.frame.FrameNo.TheVariants as nos
@@ -42,9 +42,9 @@ front_slices es lane views view pieces s = record {
       (let a = s.many in let b = length-append views (view ∷ []) in let c = length-take (length views) pieces in
       omega (arith, a, b, c));
   each = λ k v piece here there.
-      s.each k v piece (at_left views (view ∷ []) k v here)
+      s.each k v piece (get-front views (view ∷ []) k v here)
       (subst (λ (ps : List (List ℕ)). slice_get ps k ≡ Some piece) (take-append-drop (length views) pieces)
-      (at_left (take (length views) pieces) (drop (length views) pieces) k piece there));
+      (get-front (take (length views) pieces) (drop (length views) pieces) k piece there));
 }
 
 -- their roots

@@ -6,6 +6,7 @@ use Rattle.pool_law.specs.declared.id.RootId.{RootId}
 use Rattle.pool_law.specs.declared.note.Did.{Did}
 use Rattle.pool_law.specs.declared.note.Object.{Object}
 use Rattle.pool_law.specs.Naming.{noted_by}
+use Rattle.pool_law.proofs.ListLemmas.{get-further}
 use Rattle.pool_table.specs.declared.views.Entry.{Entry}
 use Rattle.pool_table.specs.declared.views.Entry.TheVariants.{At}
 use Rattle.seat_work.specs.Answers.{refused}
@@ -18,7 +19,6 @@ use Rattle.shared_pool.specs.declared.seat.PoolSeat.{PoolSeat}
 use Rattle.shared_pool.specs.RootNotes.{access}
 use Rattle.shared_pool.specs.Seats.{IsNoted}
 use Rattle.shared_pool.specs.SeatViews.{view_of}
-use Rattle.shared_pool.proofs.Openings.{at_right}
 use Rattle.frame_core.specs.declared.frame.FrameNo.{FrameNo}
 use Rattle.frame_core.specs.declared.frame.FrameNo.TheVariants as nos
 use Rattle.frame_core.specs.Frames.{failure_of, refusal}
@@ -186,7 +186,7 @@ module _ (shop : Shop) (d : Desk) (read : List ℕ) (st : DeskStands shop d read
             stands =
                 ap (slice_get ((view_of mid).own.notes ++ note ∷ []))
                 (let e : length (view_of mid).own.notes ≡ length (view_of mid).own.notes + 0 = omega arith in e)
-                ∙ at_right (view_of mid).own.notes (note ∷ []) 0
+                ∙ get-further (view_of mid).own.notes (note ∷ []) 0
                 ∙ ap (λ (lane : Option ℕ). Some (At (Object.Root root.place) number
                 (noted_by lane (access root (Did.Set 0 block))))) lane-mid;
           })

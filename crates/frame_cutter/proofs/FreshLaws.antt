@@ -10,12 +10,11 @@ use Rattle.pool_law.specs.declared.note.Noted.{Noted}
 use Rattle.pool_law.specs.declared.note.Object.{Object}
 use Rattle.pool_law.specs.declared.note.RefDid.{RefDid}
 use Rattle.pool_law.specs.Naming.{noted_by}
+use Rattle.pool_law.proofs.ListLemmas.{get-front, get-further, get-split}
 use Rattle.pool_table.specs.declared.views.Entry.{Entry}
 use Rattle.pool_table.specs.declared.views.Entry.TheVariants.{At, Ref, Busy}
 use Rattle.seat_work.specs.Growth.{is_quiet, is_quiet_entry}
 use Rattle.shared_pool.specs.RootNotes.{access}
-use Rattle.shared_pool.proofs.Openings.{at_left, at_right}
-use Rattle.frame_hash.proofs.ListParts.{either_part}
 use Rattle.frame_cutter.specs.Sends.{IsFresh, WriteFresh, WritesAt}
 
 -- no note writes
@@ -56,7 +55,7 @@ module _ (es more : List Entry) where
     number = w.number;
     stands =
         ⊎_elim (λ here. here) (λ there. absurd (let e = there.1 in omega (arith, e, low)))
-        (either_part es more at _ w.stands);
+        (get-split es more at _ w.stands);
     did = w.did;
   }
 
@@ -64,7 +63,7 @@ module _ (es more : List Entry) where
   fresh_on at root low f = record {
     birth = f.birth;
     earlier = f.earlier;
-    born = at_left es more f.birth _ f.born;
+    born = get-front es more f.birth _ f.born;
     last = λ before noted offset bytes lt w.
         f.last before noted offset bytes lt (in_first before noted offset bytes (omega (arith, lt, low)) w);
   }
@@ -80,7 +79,7 @@ module _ (es more : List Entry) where
       (f.0, (f.1.0, fresh_on at f.0 (omega (arith, low)) f.1.1)))
       (λ there. absurd (none there.0 noted offset bytes
       (record { place = w.place; number = w.number; stands = there.2; did = w.did })))
-      (either_part es more at _ w.stands)
+      (get-split es more at _ w.stands)
 
 -- ---- A block is written to a root that was just born.
 
@@ -97,13 +96,13 @@ module _ (es more : List Entry) (root : RootId) (lane : Option ℕ) (number born
     earlier =
         (let a = slice_get_within more born_at (Ref root RefDid.Born) born in let b = length-append es more in
         omega (arith, a, b));
-    born = at_left (es ++ more) (wrote ∷ []) (length es + born_at) _ (at_right es more born_at ∙ born);
+    born = get-front (es ++ more) (wrote ∷ []) (length es + born_at) _ (get-further es more born_at ∙ born);
     last = λ before noted offset bytes lt w.
         ⊎_elim
         (λ here. let low = slice_get_within es before _ here in omega (arith, low))
         (λ there. absurd (none there.0 noted offset bytes
         (record { place = w.place; number = w.number; stands = there.2; did = w.did })))
-        (either_part es more before (At (Object.Root w.place) w.number noted)
+        (get-split es more before (At (Object.Root w.place) w.number noted)
         (in_first (es ++ more) (wrote ∷ []) before noted offset bytes lt w).stands);
   }
 
@@ -130,4 +129,4 @@ module _ (es more : List Entry) (root : RootId) (lane : Option ℕ) (number born
       let is = last_note there.0 w.place w.number noted there.2 in
       let here : length (es ++ more) ≡ at = (let a = there.1 in let b = is.0 in omega (arith, a, b)) in
       (root, (is.1, subst (λ (k : ℕ). IsFresh ((es ++ more) ++ wrote ∷ []) k root) here newest)))
-      (either_part (es ++ more) (wrote ∷ []) at (At (Object.Root w.place) w.number noted) w.stands)
+      (get-split (es ++ more) (wrote ∷ []) at (At (Object.Root w.place) w.number noted) w.stands)

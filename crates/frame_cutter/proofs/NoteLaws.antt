@@ -15,12 +15,12 @@ use Rattle.pool_law.specs.Kinds.{Stays, passing}
 use Rattle.pool_law.specs.Mails.{posted}
 use Rattle.pool_law.specs.Naming.{noted_by}
 use Rattle.pool_law.proofs.PatternLemmas.{same_object-refl}
+use Rattle.pool_law.proofs.ListLemmas.{get-front, get-further}
 use Rattle.pool_table.specs.declared.views.Entry.{Entry}
 use Rattle.pool_table.specs.declared.views.Entry.TheVariants.{At}
 use Rattle.run_order.proofs.MailLists.{posted-append}
 use Rattle.shared_pool.specs.Closing.{note_of}
 use Rattle.shared_pool.specs.Notes.{plain}
-use Rattle.shared_pool.proofs.Openings.{at_left, at_right}
 use Rattle.frame_hash.proofs.QuietLaws.{stays-unposted}
 use Rattle.frame_cutter.specs.Sends.{AreSlices, HasSent, IsSlice, SendsSlice, Writes, posts_in}
 
@@ -49,7 +49,7 @@ stays_posts object number noted e sender receiver =
 module _ (es more : List Entry) where
   abbrev pub writes_kept : (lane : Option ℕ) (root : RootId) (bytes : List ℕ) → Writes es lane root bytes
       → Writes (es ++ more) lane root bytes
-  writes_kept lane root bytes w = record { at = w.at; number = w.number; stands = at_left es more w.at _ w.stands }
+  writes_kept lane root bytes w = record { at = w.at; number = w.number; stands = get-front es more w.at _ w.stands }
 
   abbrev pub slice_kept : (lane : Option ℕ) (view : ViewData) (piece : List ℕ) → IsSlice es lane view piece
       → IsSlice (es ++ more) lane view piece
@@ -77,7 +77,7 @@ module _ (es more : List Entry) where
         slice = slice_kept (Some sender) s.view piece s.slice;
         at = s.at;
         number = s.number;
-        stands = at_left es more s.at _ s.stands;
+        stands = get-front es more s.at _ s.stands;
         earlier = ap (posts_in sender receiver) (take-append-le s.at es more (omega (arith, within))) ∙ s.earlier;
         order = s.order;
       }
@@ -126,7 +126,7 @@ module _ (es : List Entry) (sender receiver number : ℕ) (view : ViewData) (pie
           number = number;
           stands =
               (let e : length es ≡ length es + 0 = omega arith in
-              ap (slice_get (es ++ letter ∷ [])) e ∙ at_right es (letter ∷ []) 0);
+              ap (slice_get (es ++ letter ∷ [])) e ∙ get-further es (letter ∷ []) 0);
           earlier = ap (posts_in sender receiver) (take-append_seam es (letter ∷ [])) ∙ s.count ∙ sym last.0;
           order = slice_get_within es slice.written.at _ slice.written.stands;
         })) (push_at pieces k p e);

@@ -12,6 +12,7 @@ use Rattle.pool_law.specs.declared.id.ViewData.{ViewData}
 use Rattle.pool_law.specs.declared.note.Did.{Did}
 use Rattle.pool_law.specs.declared.note.Object.TheVariants.{Mail}
 use Rattle.pool_law.specs.Naming.{noted_by}
+use Rattle.pool_law.proofs.ListLemmas.{item-at}
 use Rattle.pool_table.specs.declared.views.Entry.{Entry}
 use Rattle.pool_table.specs.declared.views.Entry.TheVariants.{At}
 use Rattle.pool_table.specs.Counts.{HasCount}
@@ -28,7 +29,6 @@ use Rattle.shared_pool.specs.MailAnswers.{HasRoom, IsPosted}
 use Rattle.shared_pool.specs.Notes.{plain}
 use Rattle.shared_pool.specs.SeatLanes.{lane_of}
 use Rattle.shared_pool.specs.SeatViews.{view_of}
-use Rattle.shared_pool.proofs.Openings.{there_at}
 use Rattle.frame_hash.specs.declared.shop.Shop.{Shop}
 use Rattle.frame_hash.specs.Told.{pieces_of, share_of}
 use Rattle.frame_cutter.specs.declared.desk.Desk.{Desk}
@@ -105,7 +105,7 @@ module _ (shop : Shop) (d : Desk) (read : List ℕ) (st : DeskStands shop d read
     pub piece_there : (p : List ℕ) × (slice_get st.pieces gone ≡ Some p)
     piece_there =
         let a = slice_get_within d.slices.items gone view there in let b = st.slices.many in
-        there_at st.pieces gone (omega (arith, a, b))
+        item-at st.pieces gone (omega (arith, a, b))
 
     pub slice_there : IsSlice (view_of d.seat).own.notes (Some d.workers) view piece_there.0
     slice_there = st.slices.each gone view piece_there.0 there piece_there.1

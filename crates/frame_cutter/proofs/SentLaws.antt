@@ -1,9 +1,8 @@
 -- How many parcels notes post to a lane: as many as there are letters to it.
-use Rattle.std.proofs.Common.{◌≡◌, ℕ, ◌+◌, Bool, true, false, List, [], ◌∷◌, ◌++◌, length, map, eqb, eq-eqb, ne_eqb, refl, sym, ◌∙◌, arith}
+use Rattle.std.proofs.Common.{◌≡◌, ℕ, ◌+◌, Bool, true, false, List, [], ◌∷◌, ◌++◌, length, map, eqb, refl, ◌∙◌, arith}
 use Rattle.std.specs.Prelude.{◌&&◌, if◌then◌else◌}
 use Rattle.std.proofs.lemmas.List.Sums.{sum_by-cons}
-use mathlib.Core.Logic.{dite}
-use native.Mathlib.Decide.{ℕ_discrete}
+use Rattle.std.proofs.lemmas.Cmp.{nat_eq_equiv}
 use Rattle.pool_law.specs.declared.id.Parcel.{Parcel}
 use Rattle.pool_law.specs.declared.note.Object.TheVariants.{Mail}
 use Rattle.pool_law.specs.Kinds.{Passing, Stays, Goes, Comes, passing}
@@ -15,11 +14,6 @@ use Rattle.pool_table.specs.declared.views.Entry.TheVariants.{At, Ref, Busy}
 use Rattle.pool_table.specs.Letters.{is_on_way, letter_in, letter_weight, sent_as, sent_on}
 use Rattle.shared_pool.specs.Closing.{note_of}
 use Rattle.frame_cutter.specs.Sends.{posts_in}
-
-turned : (x y : ℕ) → eqb x y ≡ eqb y x
-turned x y =
-    dite (ℕ_discrete x y) (λ e. eq-eqb x y e ∙ sym (eq-eqb y x (sym e)))
-    (λ ne. ne_eqb x y ne ∙ sym (ne_eqb y x (λ e. ne (sym e))))
 
 module _ (a b : ℕ) where
   abbrev rest : List Entry → List (ℕ × Parcel)
@@ -40,7 +34,7 @@ module _ (a b : ℕ) where
   by_passing c d k Stays xs = nothing (same_object (Mail a b) (Mail c d)) xs
   by_passing c d k (Goes parcel) xs =
       on_way (eqb a c && eqb b d) k parcel xs
-      ∙ (λ i. one_if_so (turned a c i && turned b d i) + length xs)
+      ∙ (λ i. one_if_so (nat_eq_equiv.symm a c i && nat_eq_equiv.symm b d i) + length xs)
   by_passing c d k (Comes parcel) xs = nothing (same_object (Mail a b) (Mail c d)) xs
 
   one_entry : (e : Entry) (es : List Entry)

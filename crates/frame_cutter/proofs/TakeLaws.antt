@@ -8,6 +8,7 @@ use Rattle.pool_arena.proofs.WalkLaws.{drop-step}
 use Rattle.pool_law.specs.declared.id.RootId.{RootId}
 use Rattle.pool_law.specs.declared.id.ViewData.{ViewData}
 use Rattle.pool_law.specs.Roots.{bytes_at}
+use Rattle.pool_law.proofs.ListLemmas.{get-split}
 use Rattle.pool_table.specs.declared.views.Entry.{Entry}
 use Rattle.seat_work.specs.Changes.{once_more}
 use Rattle.seat_work.specs.Hands.{empty_hand}
@@ -16,7 +17,6 @@ use Rattle.shared_pool.specs.declared.seat.PoolSeat.{PoolSeat}
 use Rattle.shared_pool.specs.SeatViews.{view_of}
 use Rattle.frame_hash.specs.declared.shop.Shop.{Shop}
 use Rattle.frame_hash.specs.Told.{joined}
-use Rattle.frame_hash.proofs.ListParts.{either_part}
 use Rattle.frame_hash.proofs.ToldLaws.{joined-more}
 use Rattle.frame_slices.specs.declared.slicer.Found.{Found}
 use Rattle.frame_slices.specs.Slices.{Takes}
@@ -61,13 +61,13 @@ module _ (es : List Entry) (lane : Option ℕ) (view : ViewData) (piece : List �
         (λ here. ⊎_elim (λ there. are.each k v p here there)
         (λ no. absurd (let a = slice_get_within views k v here in let b = are.many in let c = no.1 in
         omega (arith, a, b, c)))
-        (either_part pieces (piece ∷ []) k p p_at))
+        (get-split pieces (piece ∷ []) k p p_at))
         (λ past. ⊎_elim
         (λ no. absurd (let a = slice_get_within pieces k p no in let b = are.many in let c = past.1 in
         omega (arith, a, b, c)))
         (λ there. last past.0 there.0 v p past.2 there.2)
-        (either_part pieces (piece ∷ []) k p p_at))
-        (either_part views (view ∷ []) k v v_at);
+        (get-split pieces (piece ∷ []) k p p_at))
+        (get-split views (view ∷ []) k v v_at);
   }
     where
       last : (m n : ℕ) (v : ViewData) (p : List ℕ) → slice_get (view ∷ []) m ≡ Some v

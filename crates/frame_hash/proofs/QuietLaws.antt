@@ -6,7 +6,7 @@ use Rattle.std.proofs.lemmas.List.{map-append}
 use Rattle.std.proofs.lemmas.Bool.{and_parts}
 use Rattle.pool_law.specs.declared.id.Parcel.{Parcel}
 use Rattle.pool_law.specs.declared.note.Did.{Did}
-use Rattle.pool_law.specs.declared.note.Did.TheVariants.{Take, Full, Give, Hit, Miss, Kept, Back, Trim, Close, Shed, Handle, NoHandle, Home, Post, Fetch, Birth, Set, Get, Touch, Room, Extend, Grow, End}
+use Rattle.pool_law.specs.declared.note.Did.TheVariants.{Fetch, Set}
 use Rattle.pool_law.specs.declared.note.Note.{Note}
 use Rattle.pool_law.specs.declared.note.Noted.{Noted}
 use Rattle.pool_law.specs.declared.note.Object.{Object}
@@ -15,11 +15,12 @@ use Rattle.pool_law.specs.Kinds.{Passing, Stays, passing}
 use Rattle.pool_law.specs.Mails.{come, fetched, gone, posted}
 use Rattle.pool_law.specs.Same.{same_object}
 use Rattle.pool_law.proofs.PatternLemmas.{same_object-refl}
+use Rattle.pool_law.proofs.ListLemmas.{get-split}
 use Rattle.pool_table.specs.declared.views.Entry.{Entry}
 use Rattle.pool_table.specs.declared.views.Entry.TheVariants.{At, Ref, Busy}
-use Rattle.frame_hash.proofs.ListParts.{either_part}
 use Rattle.run_order.proofs.MailLists.{fetched-append, posted-append}
 use Rattle.seat_work.specs.Growth.{is_quiet, is_quiet_entry}
+use Rattle.seat_work.proofs.Later.{quiet_note_stays}
 use Rattle.shared_pool.specs.Closing.{note_of}
 use Rattle.frame_hash.specs.Takes.{fetches_in, FetchNothing, PostNothing, WriteNothing}
 
@@ -53,35 +54,10 @@ post_nothing_on es more x y sender receiver =
 pub write_nothing_on : (es more : List Entry) → WriteNothing es → WriteNothing more → WriteNothing (es ++ more)
 write_nothing_on es more x y at number offset root bytes stands =
     ⊎_elim (λ here. x at number offset root bytes here) (λ there. y there.0 number offset root bytes there.2)
-    (either_part (map note_of es) (map note_of more) at (Note.At (Root root.place) number (Set offset bytes))
+    (get-split (map note_of es) (map note_of more) at (Note.At (Root root.place) number (Set offset bytes))
     (ap (λ ns. slice_get ns at) (sym (map-append note_of es more)) ∙ stands))
 
 -- ---- Notes that are quiet.
-
-pub quiet-stays : (d : Did) → is_quiet d ≡ true → passing d ≡ Stays
-quiet-stays (Take class region) e = refl
-quiet-stays (Full class) e = refl
-quiet-stays (Give region) e = refl
-quiet-stays (Hit region) e = refl
-quiet-stays Miss e = refl
-quiet-stays (Kept region) e = refl
-quiet-stays (Back region why) e = refl
-quiet-stays (Trim quota) e = refl
-quiet-stays (Close quota) e = refl
-quiet-stays (Shed region) e = refl
-quiet-stays (Handle place) e = refl
-quiet-stays NoHandle e = refl
-quiet-stays (Home place) e = refl
-quiet-stays (Post parcel) e = absurd (cc e)
-quiet-stays (Fetch parcel) e = absurd (cc e)
-quiet-stays (Birth root region) e = refl
-quiet-stays (Set offset bytes) e = absurd (cc e)
-quiet-stays (Get offset bytes) e = absurd (cc e)
-quiet-stays Touch e = absurd (cc e)
-quiet-stays (Room asked capacity) e = absurd (cc e)
-quiet-stays (Extend size) e = absurd (cc e)
-quiet-stays (Grow capacity region) e = absurd (cc e)
-quiet-stays (End root) e = refl
 
 pub none-either : {X : Type 0} (b : Bool) → ◌≡◌ {A = List X} (if b then [] else []) []
 none-either true = refl
@@ -105,7 +81,7 @@ pub quiet_fetches : (es : List Entry) → list_all is_quiet_entry es ≡ true �
 quiet_fetches [] e sender receiver = refl
 quiet_fetches (At object number noted ∷ es) e sender receiver =
     let both = and_parts (is_quiet noted.did) (list_all is_quiet_entry es) e in
-    (λ i. stays-nothing (Mail sender receiver) object number noted.did (quiet-stays noted.did both.0) i
+    (λ i. stays-nothing (Mail sender receiver) object number noted.did (quiet_note_stays noted.did both.0) i
     ++ quiet_fetches es both.1 sender receiver i)
 quiet_fetches (Ref root did ∷ es) e sender receiver = quiet_fetches es e sender receiver
 quiet_fetches (Busy held ∷ es) e sender receiver = quiet_fetches es e sender receiver
@@ -114,7 +90,7 @@ pub quiet_posts : (es : List Entry) → list_all is_quiet_entry es ≡ true → 
 quiet_posts [] e sender receiver = refl
 quiet_posts (At object number noted ∷ es) e sender receiver =
     let both = and_parts (is_quiet noted.did) (list_all is_quiet_entry es) e in
-    (λ i. stays-unposted (Mail sender receiver) object number noted.did (quiet-stays noted.did both.0) i
+    (λ i. stays-unposted (Mail sender receiver) object number noted.did (quiet_note_stays noted.did both.0) i
     ++ quiet_posts es both.1 sender receiver i)
 quiet_posts (Ref root did ∷ es) e sender receiver = quiet_posts es e sender receiver
 quiet_posts (Busy held ∷ es) e sender receiver = quiet_posts es e sender receiver

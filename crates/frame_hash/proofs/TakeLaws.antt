@@ -10,12 +10,11 @@ use Rattle.pool_law.specs.declared.id.ViewData.{ViewData}
 use Rattle.pool_law.specs.declared.note.Did.{Did}
 use Rattle.pool_law.specs.declared.note.Object.TheVariants.{Mail, Root}
 use Rattle.pool_law.specs.Naming.{noted_by}
+use Rattle.pool_law.proofs.ListLemmas.{get-front, get-further, get-split}
 use Rattle.pool_table.specs.declared.views.Entry.{Entry}
 use Rattle.pool_table.specs.declared.views.Entry.TheVariants.{At}
 use Rattle.pool_table.specs.declared.views.SeatView.{SeatView}
-use Rattle.frame_hash.proofs.ListParts.{either_part}
 use Rattle.seat_work.specs.Changes.{no_change, once_less, times}
-use Rattle.seat_work.specs.HandOvers.{roots_in}
 use Rattle.seat_work.specs.HandOvers as hand_overs
 use Rattle.seat_work.specs.Hands.{empty_hand}
 use Rattle.seat_work.specs.Works.{Goes, IsLater, Proceeds, Works}
@@ -29,7 +28,6 @@ use Rattle.shared_pool.specs.RootNotes.{access}
 use Rattle.shared_pool.specs.SeatLanes.{lane_of}
 use Rattle.shared_pool.specs.SeatViews.{view_of}
 use Rattle.shared_pool.specs.Seats.{IsNoted, IsPoolSeat}
-use Rattle.shared_pool.proofs.Openings.{at_left, at_right}
 use Rattle.frame_hash.specs.declared.turns.TheConstants.{HASH_TURNS}
 use Rattle.frame_hash.specs.Takes.{CountsNone, HasSpent, HasTaken, PostNothing, ReadsView, Takes, WriteNothing, fetches_in}
 use Rattle.frame_hash.proofs.QuietLaws.{fetch_nothing_on, fetch_one, fetch_posts, fetches-on, other_writes, post_nothing_on, quiet_fetches, quiet_posts, quiet_writes, stays_fetches, stays_posts, write_nothing_on}
@@ -40,7 +38,7 @@ module _ (es more : List Entry) (lane : Option ℕ) where
   abbrev reads_kept : (view : ViewData) (bytes : List ℕ) → ReadsView es lane view bytes
       → ReadsView (es ++ more) lane view bytes
   reads_kept view bytes r =
-      record { at = r.at; number = r.number; stands = at_left es more r.at _ r.stands; whole = r.whole }
+      record { at = r.at; number = r.number; stands = get-front es more r.at _ r.stands; whole = r.whole }
 
   if_reads_kept : (o : Option ViewData) (at : ℕ) (piece : List ℕ)
       → IfSome o (λ v. (r : ReadsView es lane v piece) × (at < r.at))
@@ -56,7 +54,7 @@ module _ (es more : List Entry) (lane : Option ℕ) where
         parcel = t.parcel;
         at = t.at;
         number = t.number;
-        stands = at_left es more t.at _ t.stands;
+        stands = get-front es more t.at _ t.stands;
         earlier = ap (fetches_in sender receiver) (take-append-le t.at es more (omega (arith, within))) ∙ t.earlier;
         reads = if_reads_kept t.parcel.view t.at piece t.reads;
       }
@@ -181,7 +179,7 @@ module _ (pool : SharedPool) (old mid new : PoolSeat) (sender receiver number : 
       at = length v.own.notes + suc r.at;
       number = r.number;
       stands =
-          at_right v.own.notes (came ∷ read.added) (suc r.at)
+          get-further v.own.notes (came ∷ read.added) (suc r.at)
           ∙ r.stands
           ∙ ap (λ (lane : Option ℕ). Some (At (Root x.root.place) r.number
           (noted_by lane (access x.root (Did.Get x.offset piece))))) number-mid;
@@ -191,7 +189,7 @@ module _ (pool : SharedPool) (old mid new : PoolSeat) (sender receiver number : 
   )
 
   first : slice_get (v.own.notes ++ came ∷ read.added) (length v.own.notes + 0) ≡ Some came
-  first = at_right v.own.notes (came ∷ read.added) 0
+  first = get-further v.own.notes (came ∷ read.added) 0
 
   last-taken : Takes (v.own.notes ++ came ∷ read.added) v.own.number sender receiver
       (fetches_in sender receiver v.own.notes) piece
@@ -255,7 +253,7 @@ module _ (pool : SharedPool) (old mid new : PoolSeat) (sender receiver number : 
         ⊎_elim (λ here. takes_kept v.own.notes (came ∷ read.added) v.own.number sender receiver k p
         (taken.each k p here))
         (λ there. behind there.0 there.1 there.2)
-        (either_part pieces (piece ∷ []) k p e)
+        (get-split pieces (piece ∷ []) k p e)
       where
         behind : (m : ℕ) → k ≡ length pieces + m → slice_get (piece ∷ []) m ≡ Some p
             → Takes (v.own.notes ++ came ∷ read.added) v.own.number sender receiver k p

@@ -1,18 +1,17 @@
 -- Calls that are played one after another.
-use Rattle.std.proofs.Common.{◌≡◌, ℕ, ◌+◌, ◌-◌, ◌<◌, ◌≤◌, List, [], ◌∷◌, ◌++◌, length, drop, get_or, replicate, refl, sym, ap, ◌∙◌, subst, arith, drop-cons, add-one}
+use Rattle.std.proofs.Common.{◌≡◌, ℕ, ◌+◌, ◌-◌, ◌<◌, ◌≤◌, List, [], ◌∷◌, ◌++◌, length, drop, get_or, replicate, refl, sym, ap, ◌∙◌, subst, arith, drop-cons, add-one, append-nil}
 use Rattle.std.proofs.lemmas.List.{drop_all}
-use Rattle.pool_law.specs.declared.id.RootId.{RootId}
-use Rattle.pool_law.proofs.HistoryLemmas.{append-assoc, append-nil}
+use Rattle.pool_law.proofs.HistoryLemmas.{append-assoc}
 use Rattle.shared_pool.specs.declared.pool.SharedPool.{SharedPool}
-use Rattle.counted_view.specs.Nests.{NestState, new_nest, live_views}
+use Rattle.counted_view.specs.Nests.{new_nest, live_views}
 use Rattle.nest_run.specs.declared.calls.Call.{Call}
 use Rattle.nest_run.specs.declared.calls.Input.{Input}
 use Rattle.nest_run.specs.declared.play.Played.{Played}
 use Rattle.nest_run.specs.declared.replies.Reply.{Reply}
 use Rattle.nest_run.specs.declared.views.Play.{Play}
 use Rattle.nest_run.specs.Inputs.{call_limit}
-use Rattle.nest_run.specs.Plays.{Stage, first_root, first_stage, stage_after, replies_from}
-use Rattle.nest_run.specs.Standing.{log_of, IsWhole, HasBytes, stage_of, Stands, IsPlayed, IsSoFar, HasGone, HasAnswered, IsBorn, HasPlayed}
+use Rattle.nest_run.specs.Plays.{Stage, first_stage, stage_after, replies_from}
+use Rattle.nest_run.specs.Standing.{log_of, IsWhole, stage_of, Stands, IsPlayed, HasGone, HasAnswered, IsBorn, HasPlayed}
 
 -- nothing was played yet
 pub gone_first : (pool : SharedPool) (calls : List Call) (p : Play) → Stands pool (length calls) p

@@ -18,6 +18,7 @@ use Rattle.pool_law.specs.Roots.{RootPlace, Present, new_place, place_step, plac
 use Rattle.pool_law.specs.Same.{same_bytes, same_root}
 use Rattle.pool_law.proofs.HistoryLemmas.{append-assoc, own-append}
 use Rattle.pool_law.proofs.PatternLemmas.{same_root-refl}
+use Rattle.pool_law.proofs.SameLemmas.{same_bytes-is}
 use Rattle.seat_work.specs.Growth.{how_many}
 use Rattle.nest_run.specs.Plays.{first_root}
 use Rattle.nest_run.specs.Standing.{dids_of, Leave, FitsRelease, IsWhole, HasBytes}
@@ -122,19 +123,6 @@ bytes_set log k offset data' bytes has state e =
     let p = step_at log k (did.Set offset data') state e in
     set_step p.0 state offset data' bytes p.0.present p.1.1 (has p.0 p.1.0)
 
-same_is : (xs ys : List ℕ) → same_bytes xs ys ≡ true → xs ≡ ys
-same_is [] [] e = refl
-same_is [] (y ∷ ys) e = absurd (cc e)
-same_is (x ∷ xs) [] e = absurd (cc e)
-same_is (x ∷ xs) (y ∷ ys) e =
-    let first : x ≡ y = eqb-true x y (both (x == y) (same_bytes xs ys) e).0 in
-    let rest : xs ≡ ys = same_is xs ys (both (x == y) (same_bytes xs ys) e).1 in
-    (λ i. first i ∷ rest i)
-  where
-    both : (a b : Bool) → (a && b) ≡ true → (a ≡ true) × (b ≡ true)
-    both true b e = (refl, e)
-    both false b e = absurd (cc e)
-
 -- bytes are read, which are those of the root
 get_step : (mid t : RootPlace) (offset : ℕ) (data' bytes : List ℕ) (o : Option Present)
     → place_step_by 0 mid o (did.Get offset data') ≡ Some t → mid.present ≡ o → IfSome o (λ p. p.bytes ≡ bytes)
@@ -145,7 +133,7 @@ get_step mid t offset data' bytes (Some p) e is has =
     && same_bytes data' (bytes_at p.bytes offset (length data'))) mid t e in
     let seen : same_bytes data' (bytes_at p.bytes offset (length data')) ≡ true =
     second (nat_le (offset + length data') (length p.bytes)) _ w.0 in (
-      same_is data' _ seen ∙ ap (λ (xs : List ℕ). bytes_at xs offset (length data')) has,
+      same_bytes-is data' _ seen ∙ ap (λ (xs : List ℕ). bytes_at xs offset (length data')) has,
       subst (λ (s : RootPlace). IfSome s.present (λ q. q.bytes ≡ bytes)) w.1
           (subst (λ (q : Option Present). IfSome q (λ r. r.bytes ≡ bytes)) (sym is) has),
     )

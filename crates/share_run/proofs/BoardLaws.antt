@@ -7,6 +7,7 @@ use Rattle.std.proofs.lemmas.Option.{slice_get-get_or}
 use Rattle.pool_law.specs.declared.id.Part.{Part}
 use Rattle.pool_law.specs.declared.id.RootId.{RootId}
 use Rattle.pool_law.specs.Composites.{size_of}
+use Rattle.pool_law.proofs.ListLemmas.{item-at}
 use Rattle.history_laws.specs.NoteCounts.{did_post_of}
 use Rattle.pool_table.specs.declared.views.Entry.{Entry}
 use Rattle.pool_table.specs.declared.views.Entry.TheVariants.{At, Ref, Busy}
@@ -14,7 +15,6 @@ use Rattle.pool_table.specs.Counts.{posts}
 use Rattle.shared_pool.specs.declared.pool.SharedPool.{SharedPool}
 use Rattle.shared_pool.specs.declared.seat.PoolSeat.{PoolSeat}
 use Rattle.shared_pool.specs.Seats.{IsPoolSeat}
-use Rattle.shared_pool.proofs.Openings.{there_at}
 use Rattle.board_table.specs.Sound.{reserve}
 use Rattle.shared_composite.specs.declared.board.Board.{Board}
 use Rattle.shared_composite.specs.declared.cores.Core.{Core}
@@ -186,7 +186,7 @@ module _ (board : Board) (pool : SharedPool) (composites : List (List (List ℕ)
     turns = made.turns_are;
     many = made.composites ∙ stocked.many;
     sizes = λ k lt.
-        (let c = there_at cores k (let a = stocked.many in omega (arith, a, lt)) in
+        (let c = item-at cores k (let a = stocked.many in omega (arith, a, lt)) in
         ap size_of (ap parts_in (made.cores_are k ∙ c.1))
         ∙ ap (λ (ns : List ℕ). sum ns) (stocked.each k c.0 c.1).0.lens
         ∙ sym (length_concat (slice_index_or composites k [])));

@@ -8,8 +8,7 @@ use Rattle.std.proofs.lemmas.List.Sums.{sum_by-append, sum_by-cons, sum-map}
 use Rattle.std.proofs.lemmas.Bool.{and_parts}
 use Rattle.pool_law.specs.declared.id.Part.{Part}
 use Rattle.pool_law.specs.declared.id.RootId.{RootId}
-use Rattle.pool_law.specs.declared.note.Did.{Did}
-use Rattle.pool_law.specs.declared.note.Did.TheVariants.{Set, Post}
+use Rattle.pool_law.specs.declared.note.Did.TheVariants.{Set}
 use Rattle.pool_law.specs.declared.note.Noted.{Noted}
 use Rattle.pool_law.specs.declared.note.Object.{Object}
 use Rattle.pool_law.specs.declared.note.Object.TheVariants.{Root}
@@ -26,13 +25,14 @@ use Rattle.shared_pool.specs.Seats.{IsNoted}
 use Rattle.pool_table.specs.Capacities.{knows_of}
 use Rattle.shared_pool.specs.SeatViews.{view_of}
 use Rattle.seat_work.specs.Changes.{one_for, times, no_change, once_more}
-use Rattle.seat_work.specs.Growth.{is_quiet, is_quiet_entry}
+use Rattle.seat_work.specs.Growth.{is_quiet_entry}
 use Rattle.seat_work.specs.Hands.{empty_hand}
 use Rattle.seat_work.specs.Works.{IsLater, Proceeds}
 use Rattle.seat_work.proofs.Knowing.{knows_born, knows_on}
 use Rattle.shared_composite.proofs.KnownParts.{known_on}
 use Rattle.seat_work.proofs.FirstSeats.{has_nothing}
 use Rattle.seat_work.proofs.Proceeding.{changes_then}
+use Rattle.seat_work.proofs.Later.{quiet_note_posts}
 use Rattle.composite_buf.specs.Maps.{Fits}
 use Rattle.shared_composite.specs.Cores.{IsKnown, roots_of}
 use Rattle.share_text.specs.Inputs.{byte_limit}
@@ -46,12 +46,8 @@ get_same (x ∷ xs) (suc i) d e lt = get_same xs i d e (omega (arith, lt))
 
 -- ---- What is posted.
 
-quiet_did : (r : RootId) (did : Did) → is_quiet did ≡ true → did_post_of r did ≡ 0
-quiet_did r (Post parcel) e = absurd (cc e)
-quiet_did r _ e = refl
-
 quiet_entry : (r : RootId) (e : Entry) → is_quiet_entry e ≡ true → posts r e ≡ 0
-quiet_entry r (At o k n) e = quiet_did r n.did e
+quiet_entry r (At o k n) e = quiet_note_posts r n.did e
 quiet_entry r (Ref q d) e = refl
 quiet_entry r (Busy b) e = refl
 

@@ -1,33 +1,24 @@
 -- Lists that are joined, and places in them.
-use Rattle.std.proofs.Common.{◌≡◌, ℕ, zero, suc, ◌+◌, ◌<◌, List, [], ◌∷◌, ◌++◌, length, map, take, refl, sym, ◌∙◌, ap, subst, arith, inl, inr, zero-add, append_assoc, append-nil, length-append}
+use Rattle.std.proofs.Common.{◌≡◌, ℕ, zero, suc, ◌+◌, ◌<◌, List, [], ◌∷◌, ◌++◌, length, map, take, refl, sym, ◌∙◌, ap, subst, arith, inl, inr, append_assoc, append-nil, length-append}
 use Rattle.std.specs.Prelude.{Some, option_map, slice_get, All}
 use Rattle.std.proofs.lemmas.Bool.{cases_lt}
 use Rattle.std.proofs.lemmas.List.{map-append}
 use Rattle.std.proofs.lemmas.List.Elements.{All-nil, All-append, All-push}
 use Rattle.std.proofs.lemmas.Option.{slice_get-map}
 use Rattle.std.proofs.Math.Seq.{take-append-add}
+use Rattle.pool_law.proofs.ListLemmas.{get-further}
+use Rattle.pool_law.proofs.NumberLemmas.{get-below}
 use Rattle.size_classes.specs.Sizes.{below}
 use Rattle.trace_make.specs.Generated.{joined}
 
 -- ---- Places in lists.
-
-pub slice_get-front : {X : Type 0} (xs ys : List X) (i : ℕ) → i < length xs → slice_get (xs ++ ys) i ≡ slice_get xs i
-slice_get-front [] ys i less = absurd (omega arith)
-slice_get-front (x ∷ xs) ys zero less = refl
-slice_get-front (x ∷ xs) ys (suc i) less = slice_get-front xs ys i (omega arith)
-
-pub slice_get-behind : {X : Type 0} (xs ys : List X) (i : ℕ) → slice_get (xs ++ ys) (length xs + i) ≡ slice_get ys i
-slice_get-behind [] ys i = ap (λ k. slice_get ys k) (zero-add i)
-slice_get-behind (x ∷ xs) ys i =
-    let e : length (x ∷ xs) + i ≡ suc (length xs + i) = omega arith in
-    ap (λ k. slice_get (x ∷ (xs ++ ys)) k) e ∙ slice_get-behind xs ys i
 
 -- a place behind a front of n elements
 pub slice_get-at : {X : Type 0} (all front back : List X) (n r : ℕ) → all ≡ front ++ back → length front ≡ n
     → slice_get all (n + r) ≡ slice_get back r
 slice_get-at all front back n r is long =
     ap (λ xs. slice_get xs (n + r)) is
-    ∙ subst (λ (k : ℕ). slice_get (front ++ back) (k + r) ≡ slice_get back r) long (slice_get-behind front back r)
+    ∙ subst (λ (k : ℕ). slice_get (front ++ back) (k + r) ≡ slice_get back r) long (get-further front back r)
 
 pub take-at : {X : Type 0} (all front back : List X) (n r : ℕ) → all ≡ front ++ back → length front ≡ n
     → take (n + r) all ≡ front ++ take r back
@@ -64,25 +55,8 @@ All-joined P list (suc n) each = All-append P (joined list n) (list n) (All-join
 
 -- ---- What is given for each number below n.
 
-pub length-below : (n : ℕ) → length (below n) ≡ n
-length-below zero = refl
-length-below (suc n) = let shorter = length-below n in omega (arith, shorter, length-append (below n) (n ∷ []))
-
-pub slice_get-below : (n i : ℕ) → i < n → slice_get (below n) i ≡ Some i
-slice_get-below zero i less = absurd (omega arith)
-slice_get-below (suc n) i less = elim (cases_lt i n) [
-  | inl before ↦
-      let short : i < length (below n) = omega (arith, length-below n) in
-      slice_get-front (below n) (n ∷ []) i short ∙ slice_get-below n i before
-  | inr last ↦
-      let same : n ≡ i = omega arith in
-      let end : length (below n) + 0 ≡ n = omega (arith, length-below n) in
-      subst (λ (k : ℕ). slice_get (below n ++ n ∷ []) k ≡ Some k) same
-      (subst (λ (k : ℕ). slice_get (below n ++ n ∷ []) k ≡ Some n) end (slice_get-behind (below n) (n ∷ []) 0))
-]
-
 pub slice_get-given : {X : Type 0} (f : ℕ → X) (n i : ℕ) → i < n → slice_get (map f (below n)) i ≡ Some (f i)
-slice_get-given f n i less = slice_get-map f (below n) i ∙ ap (option_map f) (slice_get-below n i less)
+slice_get-given f n i less = slice_get-map f (below n) i ∙ ap (option_map f) (get-below n i less)
 
 pub All-given : {X : Type 0} (P : X → Type 0) (f : ℕ → X) (n : ℕ) → ((i : ℕ) → i < n → P (f i))
     → All P (map f (below n))

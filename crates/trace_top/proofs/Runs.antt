@@ -2,7 +2,7 @@
 use Rattle.std.proofs.Common.{◌≡◌, ◌<◌, ◌≤◌, ℕ, Bool, zero, suc, ◌+◌, ◌*◌, ◌^◌, List, [], ◌∷◌, get_or, length, map, Some, refl, sym, ap, ◌∙◌, subst, arith}
 use Rattle.std.specs.Prelude.{All, slice_get, unwrap_or}
 use Rattle.std.proofs.lemmas.Nat.{row_fits}
-use Rattle.std.proofs.lemmas.Option.{get_or_from_slice_get, slice_get-get_or, slice_get_within}
+use Rattle.std.proofs.lemmas.Option.{get_or_from_slice_get, slice_get-get_or, slice_get_within, same_Some}
 use Rattle.pool_law.specs.declared.command.Command.{Command}
 use Rattle.pool_law.specs.declared.run.Shape.{Shape}
 use Rattle.pool_law.specs.Bounds.{note_bound}
@@ -22,7 +22,7 @@ use Rattle.lane_core.specs.Opened.{IsFirstSeat}
 use Rattle.lane_core.specs.Played.{AreFinished}
 use Rattle.trace_top.specs.Needs.{AreSent, HasRoomFor}
 use Rattle.trace_top.specs.Standing.{AllFinished, AllOf, AllRun, AreLanes, AreReady, RunsLane}
-use Rattle.work_table.proofs.Places.{all_at, same_some}
+use Rattle.work_table.proofs.Places.{all_at}
 use Rattle.trace_top.proofs.Places.{log_found}
 
 -- a lane that was stepped runs what it ran
@@ -59,7 +59,7 @@ same_commands [] [] len at = refl
 same_commands [] (l ∷ ls) len at = absurd (omega (arith, len))
 same_commands (cs ∷ trace) [] len at = absurd (omega (arith, len))
 same_commands (cs ∷ trace) (l ∷ ls) len at =
-    λ k. same_some _ _ (sym (at zero l refl)) k
+    λ k. same_Some _ _ (sym (at zero l refl)) k
     ∷ same_commands trace ls (omega (arith, len)) (λ i x e. at (suc i) x e) k
 
 -- lanes that have finished may be closed with their pool

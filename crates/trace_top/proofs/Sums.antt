@@ -9,10 +9,10 @@ use Rattle.std.proofs.lemmas.List.Recursion.{is_count_by}
 use Rattle.pool_law.specs.declared.command.Command.{Command}
 use Rattle.pool_law.specs.Bounds.{composes}
 use Rattle.pool_law.specs.Logs.{of_lane}
+use Rattle.pool_law.proofs.LogLemmas.{lane-at}
 use Rattle.lane_core.specs.Contexts.{left_for}
 use Rattle.lane_core.specs.Lanes.{left_for_each, left_for_all}
 use Rattle.trace_top.specs.Needs.{is_move, is_send}
-use Rattle.trace_top.proofs.Places.{log_read}
 
 abbrev pub one : Bool → ℕ
 one b = if b then 1 else 0
@@ -109,5 +109,5 @@ each_more f lanes i cs most more here at kept now before k below = elim (cases_l
   | inr past ↦
       let same : i ≡ k = omega (arith, below, past) in
       subst (λ j. f (of_lane lanes j) ≤ more) same
-      (subst (λ (xs : List Command). f xs ≤ more) (sym (log_read lanes i cs here at)) now)
+      (subst (λ (xs : List Command). f xs ≤ more) (sym (lane-at lanes i cs here at)) now)
 ]

@@ -4,10 +4,10 @@ use Rattle.std.proofs.Math.Nat.{div-lt_iff_lt-mul}
 use Rattle.std.proofs.lemmas.Bool.{cases_lt}
 use Rattle.std.proofs.lemmas.Nat.{div-mul-add, mod-mul-add, mul-add-lt}
 use Rattle.pool_law.specs.declared.command.Command.{Command}
+use Rattle.pool_law.proofs.LogLemmas.{lane-at}
 use Rattle.lane_core.specs.Lanes.{left_for_all}
 use Rattle.trace_top.specs.Needs.{sent}
 use Rattle.work_table.proofs.Places.{pushed_before, pushed_last}
-use Rattle.trace_top.proofs.Places.{log_read}
 use Rattle.trace_top.proofs.needs.mail_for.Goals as goal
 
 some_lane : (n k : ℕ) → n < k * k → 0 < k
@@ -37,7 +37,7 @@ loop-index-preserved c =
     (div-lt_iff_lt-mul (some_lane n (length lanes) c.loop-index-test.true)).1 c.loop-index-test.true in
     let these =
     c.items.ensures
-    ∙ sym (log_read lanes (n / length lanes) c.index-lanes-index.result within c.index-lanes-index.is) in
+    ∙ sym (lane-at lanes (n / length lanes) c.index-lanes-index.result within c.index-lanes-index.is) in
     let last : c.sends_to.result ≡ at lanes n =
     c.sends_to.ensures ∙ ap (λ (cs : List Command). (left_for_all cs).sends (n % length lanes)) these in
     record {
