@@ -1,11 +1,10 @@
 -- The cores of the tests, and the boards of these.
 use Rattle.std.proofs.Common.{◌≡◌, ℕ, zero, suc, ◌+◌, ◌*◌, ◌<◌, ◌≤◌, List, [], ◌∷◌, ◌++◌, length, replicate, get_or, refl, sym, ap, ◌∙◌, subst, arith}
 use Rattle.std.specs.Prelude.{All, HoldsAt, IfSome, None, Some, Option, filter_map, slice_get, sum_by}
-use Rattle.std.proofs.lemmas.List.{get_or-replicate}
 use Rattle.std.proofs.lemmas.Option.{get_or_from_slice_get}
 use mathlib.Core.Logic.{dite}
 use native.Mathlib.Decide.{ℕ_discrete}
-use Rattle.std.proofs.lemmas.List.Elements.{All-nil, All-cons, All-head, All-tail, All-weaker}
+use Rattle.std.proofs.lemmas.List.Elements.{All-nil, All-cons, All-head, All-tail}
 use Rattle.std.proofs.lemmas.List.Folds.{sum_by-replicate}
 use Rattle.std.proofs.lemmas.List.Sums.{sum_by-cons}
 use Rattle.pool_law.specs.declared.id.Part.{Part}
@@ -30,10 +29,10 @@ use Rattle.shared_composite.specs.declared.board.Board.{Board}
 use Rattle.shared_composite.specs.declared.board.BoardSeat.{BoardSeat}
 use Rattle.shared_composite.specs.declared.cores.Core.{Core}
 use Rattle.shared_composite.specs.Boards as boards
-use Rattle.shared_composite.specs.Boards.{AreCores, AreLeft, HasView, IsAtHome, IsMadeOf, IsPoolOf, IsSeatOf, core_in, origin_of, parts_in, parts_of}
+use Rattle.shared_composite.specs.Boards.{AreLeft, HasView, IsMadeOf, IsPoolOf, IsSeatOf, parts_in}
 use Rattle.seat_work.proofs.Knowing.{knows_born}
-use Rattle.shared_composite.specs.Cores.{CountsJust, IsCore, IsEmptied, IsFit, IsKnown, IsUnderway, turns_of}
-use Rattle.board_cases.specs.Seats.{Can, used}
+use Rattle.shared_composite.specs.Cores.{CountsJust, IsCore, IsEmptied, IsFit, IsKnown, IsUnderway}
+use Rattle.board_cases.specs.Seats.{used}
 use Rattle.board_cases.specs.Texts.{IsText, Shows, part, text_in}
 use Rattle.board_cases.proofs.BoardSeats.{home_core, knows}
 
@@ -84,12 +83,6 @@ made_text pool seat parts core large small is at of core_is turns =
 
 -- ---- Boards.
 
-pub text_cores : (pool : SharedPool) (turns : ℕ) (cores : List Core) → turns ≤ 350 → All (IsText pool) cores
-    → AreCores pool turns cores
-text_cores pool turns cores few all =
-    All-weaker (IsText pool) (λ c. IsCore pool c × (25 * turns + 100 ≤ turns_of c))
-    (λ c text. (text.core_is, (let a = text.turns in omega (arith, a, few)))) cores all
-
 first_text : (pool : SharedPool) (cores : List Core) → 0 < length cores → All (IsText pool) cores
     → (core : Core) × (slice_get cores 0 ≡ Some core) × IsText pool core
 first_text pool [] some all = absurd (omega (arith, some))
@@ -133,18 +126,6 @@ module _ (board : Board) (seat : BoardSeat) (n moves turns : ℕ) (some : 0 < n)
     (has : HasView seat (first_view n moves turns)) where
   first : boards.view_of seat ≡ first_view n moves turns
   first = knows seat (first_view n moves turns) has
-
-  pub first_can : Can board moves turns seat
-  first_can =
-      let stake : stake_of 0 (first_view n moves turns) ≡ more no_stake = get_or-replicate n 0 (more no_stake) no_stake
-      some in
-      let counts = ap (λ (x : Stake). x.counts) (ap (λ (v : BoardView). stake_of 0 v) first ∙ stake) in
-      record {
-        own = own;
-        counts = omega (arith, counts);
-        moves_left = (let a = ap (λ (v : BoardView). v.moves) first in omega (arith, a));
-        turns_left = (let a = ap (λ (v : BoardView). v.turns) first in omega (arith, a));
-      }
 
   pub first_used : used seat ≡ turns
   first_used =

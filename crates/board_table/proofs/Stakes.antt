@@ -1,5 +1,5 @@
 -- The stakes of one view: read and changed by composite.
-use Rattle.std.proofs.Common.{◌≡◌, ℕ, ◌+◌, ◌*◌, ◌<◌, ◌≤◌, length, get_or, set, sym, ap, subst, arith, lt_of_not-le, get_or-set_same, get_or-set_other}
+use Rattle.std.proofs.Common.{◌≡◌, ℕ, ◌+◌, ◌<◌, ◌≤◌, length, get_or, set, sym, ap, subst, arith, lt_of_not-le, get_or-set_same, get_or-set_other}
 use Rattle.std.specs.Prelude.{sum_by}
 use Rattle.std.proofs.lemmas.List.{get_or_past}
 use Rattle.std.proofs.lemmas.List.Sums.{get_or-le-sum_by}
@@ -33,14 +33,6 @@ one_of f none k v =
     dite (dec_le (length v.stakes) k)
     (λ past. let e = ap f (get_or_past v.stakes k no_stake past) in omega (arith, e, none))
     (λ ne. get_or-le-sum_by f v.stakes k no_stake (lt_of_not-le ne))
-
--- such a composite is one of the table's
-pub in_table : (k : ℕ) (v : BoardView) (words own composites : ℕ)
-    → 0 < (stake_of k v).counts + (stake_of k v).marks → 16 * length v.stakes ≤ own → own ≡ words
-    → words ≡ 16 * composites → k < composites
-in_table k v words own composites has le same are =
-    let lt = within k v has in let n : ℕ = length v.stakes in let lt' : k < n = lt in let le' : 16 * n ≤ own = le in
-    omega (arith, lt', le', same, are)
 
 -- a view that counts it may enter its section
 pub may_enter : (k : ℕ) (v : BoardView) → 0 < (stake_of k v).counts → 0 < (stake_of k v).counts + (stake_of k v).marks

@@ -1,9 +1,9 @@
 -- The six lists: which of them a chunk is in once it has left or entered.
-use Rattle.std.proofs.Common.{◌≡◌, ℕ, List, ◌∷◌, refl, sym, ap, Bool, true, false, Some, None, ◌∙◌, eq-eqb}
+use Rattle.std.proofs.Common.{◌≡◌, ℕ, List, ◌∷◌, refl, ap, Bool, true, false, Some, None, ◌∙◌, eq-eqb}
 use Rattle.std.specs.Prelude.{◌==◌, ◌||◌, not, if◌then◌else◌, Option}
 use Rattle.pool_law.specs.declared.report.ListName.{ListName}
 use Rattle.pool_law.specs.declared.report.ListName.TheVariants.{QInit, Q000, Q025, Q050, Q075, Q100}
-use Rattle.pool_law.specs.ChunkLists.{Lists, list_named, entered, without, left, has, list_of, same_list, moved_to}
+use Rattle.pool_law.specs.ChunkLists.{Lists, list_named, entered, without, left, has, list_of}
 use Rattle.pool_law.proofs.NumberLemmas.{has-without}
 use Rattle.chunk_list.proofs.MemberLemmas.{without-absent}
 
@@ -122,32 +122,3 @@ pub left-entered_first : (l : Lists) (c : ℕ) → IsInNone l c → left (entere
 left-entered_first l c none =
     ap (λ b. record (left l c) { init = (if not b then c ∷ without c l.init else without c l.init) }) (itself c)
     ∙ left-absent l c none
-
-same_list-is : (a b : ListName) → same_list a b ≡ true → a ≡ b
-same_list-is QInit QInit e = refl
-same_list-is Q000 Q000 e = refl
-same_list-is Q025 Q025 e = refl
-same_list-is Q050 Q050 e = refl
-same_list-is Q075 Q075 e = refl
-same_list-is Q100 Q100 e = refl
-same_list-is _ _ e = absurd (cc e)
-
-same_list-refl : (a : ListName) → same_list a a ≡ true
-same_list-refl QInit = refl
-same_list-refl Q000 = refl
-same_list-refl Q025 = refl
-same_list-refl Q050 = refl
-same_list-refl Q075 = refl
-same_list-refl Q100 = refl
-
--- a chunk that is there already keeps its place
-pub moved_to-same : (l : Lists) (c : ℕ) (here : ListName) → moved_to l c here here ≡ l
-moved_to-same l c here = ap (λ b. if b then l else entered (left l c) here c) (same_list-refl here)
-
-pub moved_to-other : (l : Lists) (c : ℕ) (here there : ListName) → (there ≡ here → ⊥) →
-    moved_to l c here there ≡ entered (left l c) there c
-moved_to-other l c here there other = go (same_list here there) refl
-  where
-    go : (b : Bool) → same_list here there ≡ b → moved_to l c here there ≡ entered (left l c) there c
-    go true is = absurd (other (sym (same_list-is here there is)))
-    go false is = ap (λ b. if b then l else entered (left l c) there c) is

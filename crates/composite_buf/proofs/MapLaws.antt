@@ -32,13 +32,6 @@ pub byte_at-behind : (p : Part) (ps : List Part) (i : ℕ) → p.len ≤ i → b
 byte_at-behind p ps i behind =
     ap (λ (b : Bool). if b then byte_of p i else byte_at ps (i - p.len)) (le-ltb i p.len behind)
 
--- no byte from the length of all parts on
-pub byte_at-past : (ps : List Part) (i : ℕ) → size_of ps ≤ i → byte_at ps i ≡ None
-byte_at-past [] i past = refl
-byte_at-past (p ∷ ps) i past =
-    byte_at-behind p ps i (omega (arith, size_of_cons p ps))
-    ∙ byte_at-past ps (i - p.len) (omega (arith, size_of_cons p ps))
-
 -- the map of some parts before others
 pub byte_at-before : (xs ys : List Part) (i : ℕ) → i < size_of xs → byte_at (xs ++ ys) i ≡ byte_at xs i
 byte_at-before [] ys i before = absurd (omega arith)

@@ -14,10 +14,6 @@ use Rattle.counted_view.proofs.TreeLaws.{nest_of, shown_at, push_cases}
 
 -- ---- Views of one root.
 
-pub AreOf-one : (root : RootId) (y : Row) → IsOf root y.view.at → AreOf root (y ∷ [])
-AreOf-one root y is zero r e = subst (λ (q : Row). IsOf root q.view.at) (same_Some y r e) is
-AreOf-one root y is (suc k) r e = absurd (cc e)
-
 pub AreOf-set : (root : RootId) (rows : List Row) (v : ℕ) (x y : Row) → AreOf root rows → slice_get rows v ≡ Some x
     → y.view.at ≡ x.view.at → AreOf root (set rows v y)
 AreOf-set root rows v x y all at same number r e =

@@ -1,11 +1,10 @@
 -- What a seat counts of the root, once a nest retained or released it.
 use Rattle.std.proofs.Common.{◌≡◌, ℕ, ◌+◌, ◌-◌, ◌<◌, Bool, true, false, cond, refl, sym, ap, ◌∙◌, subst, arith, Some, None}
 use Rattle.std.specs.Prelude.{Option, IsSome, option_map, unwrap_or, nat_lt, ◌==◌, if◌then◌else◌, slice_get, MatchBool}
-use Rattle.std.proofs.lemmas.Bool.{lt-ltb, le-ltb, ltb-true}
+use Rattle.std.proofs.lemmas.Bool.{ltb-true}
 use Rattle.pool_law.specs.declared.id.RootId.{RootId}
 use Rattle.pool_law.specs.declared.note.RefDid.{RefDid}
 use Rattle.pool_law.specs.declared.note.RefDid.TheVariants as steps
-use Rattle.pool_law.specs.Views.{in_range}
 use Rattle.pool_law.proofs.PatternLemmas.{same_root-refl}
 use Rattle.pool_table.specs.declared.roots.EndToken.{EndToken}
 use Rattle.shared_pool.specs.declared.seat.PoolSeat.{PoolSeat}
@@ -15,8 +14,6 @@ use Rattle.pool_table.specs.Counts.{ref_gain, ref_loss, on_this, fetches, posts,
 use Rattle.pool_table.proofs.Counts.{weigh_ref}
 use Rattle.shared_pool.specs.SeatViews.{view_of}
 use Rattle.shared_pool.specs.RootNotes.{IsReleasedAs}
-use Rattle.counted_view.specs.declared.calls.NestNo.{NestNo}
-use Rattle.counted_view.specs.declared.calls.NestNo.TheVariants.{Range, Full}
 use Rattle.counted_view.specs.Nests.{NestedView, NestState, if_held, held_view, root_counts, slice_no, retain_no}
 use Rattle.counted_view.specs.NestSeats.{CountsRoot, IsRetained, IsCountedIn, IsReleasedIf, release_of}
 use Rattle.counted_view.proofs.RowLaws.{one}
@@ -103,26 +100,9 @@ pub some_if_sliced : (full : Bool) (o : Option NestedView) (start len : ℕ) →
 some_if_sliced full None start len e = absurd (cc e)
 some_if_sliced full (Some x) start len e = refl
 
-room_by : (full inside : Bool) → ◌≡◌ {A = Option NestNo}
-    (if inside then (if full then Some Full else None) else Some Range) None → full ≡ false
-room_by true true e = absurd (cc e)
-room_by false true e = refl
-room_by true false e = absurd (cc e)
-room_by false false e = refl
-
-pub room_if_sliced : (full : Bool) (o : Option NestedView) (start len : ℕ) → slice_no full o start len ≡ None
-    → full ≡ false
-room_if_sliced full None start len e = absurd (cc e)
-room_if_sliced full (Some x) start len e = room_by full (in_range x.at start len) e
-
 pub some_if_retained : (o : Option NestedView) → retain_no o ≡ None → IsSome o
 some_if_retained None e = absurd (cc e)
 some_if_retained (Some x) e = refl
-
--- whether the root is counted less
-pub lost_is : (lost : Bool) (new old : ℕ) → new + one lost ≡ old → nat_lt new old ≡ lost
-lost_is true new old e = lt-ltb new old (omega arith)
-lost_is false new old e = le-ltb new old (omega arith)
 
 -- ---- The nest and the seat.
 

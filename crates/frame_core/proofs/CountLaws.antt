@@ -30,10 +30,6 @@ count_or-at s bytes at =
     ap (count_or (reading bytes).frames) at.failure
     ∙ count_or-open (s.within == 0) s.frames (reading bytes).frames (sym at.frames)
 
-pub count_or-refused : (bytes : List ℕ) (why : FrameNo) → refusal (failure_of bytes) ≡ Some why
-    → count_or (frames_of bytes) (failure_of bytes) ≡ Err why
-count_or-refused bytes why e = ap (count_or (frames_of bytes)) (failure-from_refusal (failure_of bytes) why e)
-
 pub count-inside : (s : Standing) (bytes : List ℕ) → s.refusal ≡ None → 0 < s.within → HasRead s bytes
     → Err (Inside s.frames) ≡ count_or (frames_of bytes) (failure_of bytes)
 count-inside s bytes none some read =

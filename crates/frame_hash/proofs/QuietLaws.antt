@@ -95,10 +95,6 @@ quiet_posts (At object number noted ∷ es) e sender receiver =
 quiet_posts (Ref root did ∷ es) e sender receiver = quiet_posts es e sender receiver
 quiet_posts (Busy held ∷ es) e sender receiver = quiet_posts es e sender receiver
 
--- what was done in a note
-did-of : (o p : Object) (m n : ℕ) (c d : Did) → ◌≡◌ {A = Note} (Note.At o m c) (Note.At p n d) → c ≡ d
-did-of o p m n c d e = cc e
-
 at-first : (o p : Object) (m n : ℕ) (c d : Did) → Some (Note.At o m c) ≡ Some (Note.At p n d) → c ≡ d
 at-first o p m n c d e = cc e
 

@@ -17,10 +17,6 @@ there (Some x) h = (x, refl)
 pub one_there : {X : Type 0} (o : Option X) (x y : X) → o ≡ Some x → o ≡ Some y → x ≡ y
 one_there o x y a b = let e : Some x ≡ Some y = sym a ∙ b in cc e
 
-pub dids-push : (h : List Noted) (n : Noted) → noted_dids (h ++ n ∷ []) ≡ noted_dids h ++ n.did ∷ []
-dids-push [] n = refl
-dids-push (x ∷ h) n = ap (λ (ds : List Did). x.did ∷ ds) (dids-push h n)
-
 -- the notes lead from x to y
 abbrev pub Runs : {S : Type 0} → (S → Noted → S → Type 0) → S → List Noted → S → Type 0
 Runs step x [] y = x ≡ y

@@ -2,7 +2,7 @@
 use Rattle.std.proofs.Common.{◌≡◌, ℕ, suc, ◌+◌, ◌<◌, ◌≤◌, List, [], ◌∷◌, ◌++◌, length, take, drop, true, refl, sym, ap, arith, subst, ◌∙◌, length-drop, subst₂}
 use Rattle.std.specs.Prelude.{◌↔◌, Some, is_some, sum}
 use Rattle.std.specs.List.{sum_by}
-use Rattle.std.proofs.lemmas.List.{drop-drop, take_all}
+use Rattle.std.proofs.lemmas.List.{drop-drop}
 use Rattle.std.proofs.lemmas.List.Sums.{sum_by-append, sum_by-cons, sum-map}
 use Rattle.pool_law.specs.declared.command.Command.{Command}
 use Rattle.pool_law.specs.declared.run.Shape.{Shape}
@@ -132,14 +132,6 @@ module _ (rs : List Answered) (es : ToldNotes) (i : ℕ) (left : ToldNotes) (is 
     length-drop (noted (take i rs))
         es,
   )
-
-  pub left-all : length rs ≤ i →
-      (sum (note_counts rs) ≤ length es) × (left ≡ drop (sum (note_counts rs)) es)
-  left-all past =
-      let all : take i rs ≡ rs = take_all i rs past in
-      let same : noted (take i rs) ≡ sum (note_counts rs) =
-      ap (λ (these : List Answered). noted these) all ∙ sym (noted-sum rs) in
-      (omega (arith, is.counted, same), is.rest ∙ ap (λ (n : ℕ). drop n es) same)
 
   module _ (r : Answered) (replies : drop i rs ≡ r ∷ drop (i + 1) rs) where
     -- the next command has more notes than there are

@@ -65,10 +65,6 @@ abbrev ends : Log → ToldNotes → Bool
 ends log left = is_some (option_and_then (λ got. give got.0 got.1) (ended_with log left))
 
 module _ (log : Rattle.lane_reader.specs.declared.log.Log.Log) (r : Reader (Unit {0})) where
-  pub read-none : r (log_at new_lane (entries log)) ≡ None →
-      is_some (read_all r (log_at new_lane (entries log))) ≡ false
-  read-none none = ap (λ (q : Option (Unit {0} × Log)). is_some (ended q)) none
-
   module _ (at : At) (read : r (log_at new_lane (entries log)) ≡ passes [] log (Some at)) where
     pub read-all : length log.notes.now ≤ at.place → is_some (read_all r (log_at new_lane (entries log))) ≡ true
     read-all past =

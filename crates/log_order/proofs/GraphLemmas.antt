@@ -1,5 +1,5 @@
 -- Notes as nodes of a graph, and a circle of them.
-use Rattle.std.proofs.Common.{⊎_elim, inl, inr, ◌⊎◌, ◌≡◌, ℕ, zero, suc, ◌+◌, ◌-◌, ◌<◌, List, [], ◌∷◌, ◌++◌, length, set, Some, refl, sym, ap, arith, ◌∙◌}
+use Rattle.std.proofs.Common.{⊎_elim, inl, inr, ◌⊎◌, ◌≡◌, ℕ, zero, suc, ◌+◌, ◌-◌, ◌<◌, List, [], ◌∷◌, ◌++◌, length, set, Some, sym, ap, arith, ◌∙◌}
 use Rattle.std.specs.Prelude.{slice_get, Vec}
 use Rattle.std.specs.declared.alloc.Global.{Global}
 use Rattle.std.proofs.lemmas.Bool.{cases_eq, cases_lt}
@@ -11,13 +11,6 @@ use Rattle.topo_order.proofs.Lists.{item, get_set, get_set_other, set_cases, pus
 use Rattle.log_order.specs.Graphs.{AreNodesOf, AreBack}
 use Rattle.log_order.specs.Precedence.{MustStandBefore, GoesInACircle}
 use Rattle.log_order.specs.declared.spots.Spot.{Spot}
-
-pub no-nodes : (logs : Logs) → AreNodesOf logs [] []
-no-nodes logs = record {
-  as_many = refl;
-  low = λ first node must. absurd (let none : slice_get [] node ≡ Some must.0 = must.2 in cc none);
-  edges = λ first node a b must at bt. absurd (let none : slice_get [] node ≡ Some must.0 = must.2 in cc none);
-}
 
 -- one node more, before which nothing must stand
 pub pushes : (logs : Logs) (spots : List Spot) (needs : List (Vec ℕ Global)) (s : Spot) (v : Vec ℕ Global)

@@ -1,18 +1,17 @@
 -- That all pairs of which one must stand before the other are linked.
-use Rattle.std.proofs.Common.{⊎_elim, inl, ◌≡◌, ℕ, zero, suc, ◌+◌, ◌-◌, ◌<◌, ◌≤◌, true, List, length, Option, Some, None, refl, sym, ap, subst, arith, ◌∙◌}
+use Rattle.std.proofs.Common.{⊎_elim, inl, ◌≡◌, ℕ, zero, suc, ◌+◌, ◌-◌, ◌<◌, ◌≤◌, true, List, length, Option, Some, sym, ap, subst, arith, ◌∙◌}
 use Rattle.std.specs.Prelude.{slice_get}
 use Rattle.std.proofs.lemmas.Bool.{cases_lt}
 use Rattle.std.proofs.lemmas.Option.{slice_get_within, same_Some}
 use Rattle.pool_law.specs.declared.note.Note.{Note}
-use Rattle.pool_law.specs.Logs.{Logs, of_lane}
+use Rattle.pool_law.specs.Logs.{Logs}
 use Rattle.pool_law.specs.Lives.{StandsAt}
 use Rattle.topo_order.specs.Sorting.{IsOrder}
 use Rattle.topo_order.proofs.Lists.{item}
-use Rattle.log_order.specs.Graphs.{IsGraph}
 use Rattle.log_order.specs.Precedence.{note_precedes, MustStandBefore, GoesInACircle}
 use Rattle.log_order.specs.Staging.{Stage, stage_of, first_want, second_want}
-use Rattle.log_order.specs.Indexing.{listed, AreListed}
-use Rattle.log_order.specs.Filling.{before, ArePlaced, IsFilled, Links, Grows, IsWhole}
+use Rattle.log_order.specs.Indexing.{listed}
+use Rattle.log_order.specs.Filling.{before, IsFilled, Links, Grows, IsWhole}
 use Rattle.log_order.specs.declared.graph.Graph.{Graph}
 use Rattle.log_order.specs.declared.index.Index.{Index}
 use Rattle.log_order.specs.declared.spots.Spot.{Spot}
@@ -33,18 +32,6 @@ grows-on logs old mid new H K L g h l = record {
   spots = h.spots ∙ g.spots;
   keeps = λ first node must. h.keeps first node (g.keeps first node must);
   holds = l;
-}
-
-pub grows-none : (logs : Logs) (graph : Graph) (H : Type 0) → IsGraph logs graph → H → Grows logs graph graph H
-grows-none logs graph H g h = record { graph = g; spots = refl; keeps = λ first node must. must; holds = h }
-
--- a graph that grew is filled as it was
-pub filled-on : (logs : Logs) (old new : Graph) (index : Index) (lane at : ℕ) (H : Type 0) → Grows logs old new H
-    → IsFilled logs old index lane at → IsFilled logs new index lane at
-filled-on logs old new index lane at H g f = record {
-  graph = g.graph;
-  placed = subst (λ z. ArePlaced logs z lane at) (sym g.spots) f.placed;
-  listed = subst (λ z. AreListed logs z index) (sym g.spots) f.listed;
 }
 
 -- those of the stages that a note wants, and the one before it in its lane, are all that must stand before it
@@ -86,15 +73,6 @@ node-linked logs old mid some new index lane at node s n want other w v f here i
     next : a.lane ≡ b.lane → suc a.at ≡ b.at → first + 1 ≡ node
     next lanes ats =
         omega (arith, f.placed.own first a a-old, f.placed.own node b b-old, ap (before logs) lanes, ats)
-
--- a node at which no note stands is linked to none
-pub nothing-linked : (logs : Logs) (graph : Graph) (node : ℕ) (s : Spot) → slice_get graph.spots.items node ≡ Some s
-    → slice_get (of_lane logs s.lane) s.at ≡ None → (first : ℕ) → Links logs graph first node
-nothing-linked logs graph node s here none first a b at bt must =
-    let same : b ≡ s = same_Some b s (sym bt ∙ here) in
-    let both : Some must.second ≡ None =
-    sym must.second_stands ∙ ap (λ (z : Spot). slice_get (of_lane logs z.lane) z.at) same ∙ none in
-    absurd (cc both)
 
 -- where all nodes are linked the graph is whole
 pub is-whole : (logs : Logs) (old new : Graph) (index : Index) → IsFilled logs old index (length logs) 0

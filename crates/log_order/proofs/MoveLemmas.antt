@@ -33,12 +33,6 @@ follows logs old mid new true false H K L m n l = stays-on logs old mid new true
 follows logs old mid new false true H K L m n l = goes-on logs old mid new false H K L m n
 follows logs old mid new false false H K L m n l = stays-on logs old mid new false H K L m n l
 
--- the last of plays that stayed so
-pub last-stays : (logs : Logs) (old mid new : Play) (went : Bool) (H K L : Type 0) → MovesOn logs old mid false H
-    → MovesOn logs mid new went K → (K → L) → MovesOn logs old new went L
-last-stays logs old mid new true H K L m n k = goes-on logs old mid new false H K L m n
-last-stays logs old mid new false H K L m n k = stays-on logs old mid new false H K L m n (k n.1.holds)
-
 -- a lane that could not go on still cannot
 pub held-stays : (logs : Logs) (old new : Play) (lane : ℕ) → new.next.items ≡ old.next.items
     → new.order.items ≡ old.order.items → IsHeld logs old lane → IsHeld logs new lane

@@ -199,16 +199,6 @@ lane-moved logs old new s lane k n so same low is fits read next order more = (
     count : k ≡ s.at
     count = sym got ∙ sym at
 
--- before the first
-pub nothing-played : (logs : Logs) (next : List ℕ) → length next ≡ length logs → ((lane : ℕ) → get_or next lane 0 ≡ 0)
-    → ArePlayed logs next []
-nothing-played logs next lanes none = record {
-  lanes = lanes;
-  whole = λ lane. ap (λ k. take k (of_lane logs lane)) (sym (none lane));
-  within = λ lane. omega (arith, none lane);
-  fit = λ p x e. absurd (cc e);
-}
-
 -- behind the last
 pub in-order : (logs : Logs) (next : List ℕ) (order : List Spot) → AllStand logs order
     → ArePlayed logs next (steps_at logs order) → IsOver logs next → InOrder logs order

@@ -1,6 +1,6 @@
 -- The close of a pool of one seat.
-use Rattle.std.proofs.Common.{◌≡◌, ℕ, zero, suc, ◌+◌, ◌<◌, [], ◌∷◌, sym, ap, ◌∙◌, arith, Some}
-use Rattle.std.specs.Prelude.{All, HoldsAt}
+use Rattle.std.proofs.Common.{◌≡◌, ℕ, zero, suc, ◌<◌, [], ◌∷◌, sym, ap, ◌∙◌, arith, Some}
+use Rattle.std.specs.Prelude.{HoldsAt}
 use Rattle.pool_law.specs.declared.run.Shape.{Shape}
 use Rattle.shared_pool.specs.declared.seat.PoolSeat.{PoolSeat}
 use Rattle.pool_table.specs.declared.views.Layout.{Layout}
@@ -8,7 +8,6 @@ use Rattle.shared_pool.specs.SeatViews.{view_of}
 use Rattle.shared_pool.specs.declared.pool.SharedPool.{SharedPool}
 use Rattle.shared_pool.specs.Closing.{AreWhole}
 use Rattle.shared_pool.specs.Seated.{IsDone, AreDone, parts_in}
-use Rattle.shared_pool.specs.Seats.{IsPoolSeat}
 use Rattle.seat_work.specs.Hands.{empty_hand}
 use Rattle.seat_work.specs.Works.{Works}
 use Rattle.seat_work.proofs.FirstSeats.{has_nothing}
@@ -37,10 +36,6 @@ module _ (pool : SharedPool) (layout : pool.layout ≡ LAYOUT) (seat : PoolSeat)
         nothing = has_nothing (view_of seat) works.held;
       }
       each (suc lane) lt d = absurd (let b = lanes in omega (arith, lt, b))
-
-  pub one_seat : IsPoolSeat pool seat → All (λ s. IsPoolSeat pool s) (seat ∷ [])
-  one_seat is zero d lt = is
-  one_seat is (suc k) d lt = absurd (omega (arith, lt))
 
 -- what the close tells of all notes says that all was right
 pub closed_right : (pool : SharedPool) (shape : Shape) (input : Input) (played : Played)

@@ -1,13 +1,13 @@
 -- What a step of the definition comes to, by what the nest answers; and what a call makes of the nest.
-use Rattle.std.proofs.Common.{◌≡◌, ◌≢◌, ℕ, zero, suc, ◌+◌, ◌-◌, ◌<◌, ◌≤◌, Bool, true, false, List, [], ◌∷◌, ◌++◌, length, set, refl, sym, ap, ◌∙◌, subst, arith, Some, None, ne_eqb, length-set, length-append}
-use Rattle.std.specs.Prelude.{Option, ◌==◌, nat_lt, if◌then◌else◌, slice_get, slice_set}
+use Rattle.std.proofs.Common.{◌≡◌, ◌≢◌, ℕ, zero, suc, ◌+◌, ◌-◌, ◌<◌, ◌≤◌, Bool, true, false, List, [], ◌∷◌, ◌++◌, length, set, refl, ap, ◌∙◌, subst, arith, Some, None, ne_eqb, length-set, length-append}
+use Rattle.std.specs.Prelude.{Option, ◌==◌, nat_lt, if◌then◌else◌, slice_get}
 use Rattle.std.proofs.lemmas.Option.{same_Some}
 use Rattle.pool_law.specs.Views.{in_range}
 use Rattle.counted_view.specs.declared.calls.NestCall.{NestCall}
 use Rattle.counted_view.specs.declared.calls.NestCall.TheVariants as accepted
 use Rattle.counted_view.specs.declared.calls.NestNo.{NestNo}
 use Rattle.counted_view.specs.declared.calls.NestNo.TheVariants as refusals
-use Rattle.counted_view.specs.Nests.{NestedView, NestState, after_call, views_after, with_slice, with_holds, part_of, if_held, held_view, has_all, range_no, slice_no, retain_no, release_no}
+use Rattle.counted_view.specs.Nests.{NestedView, NestState, after_call, with_slice, with_holds, part_of, if_held, held_view, has_all, range_no, slice_no, retain_no, release_no}
 use Rattle.nest_run.specs.declared.replies.Reply.{Reply}
 use Rattle.nest_run.specs.Plays.{Stage, Step, on_view, on_range}
 use Rattle.nest_run.specs.Standing.{AreHeld, refusal}
@@ -157,9 +157,3 @@ after_long s (accepted.Release of) = by (slice_get s.views of)
     by : (o : Option NestedView) → length (with_holds (λ h. h - 1) o s.views of) ≤ length s.views + 1
     by None = omega arith
     by (Some x) = omega (arith, length-set {A = NestedView})
-
-pub after_root : (s : NestState) (call : NestCall) → (after_call s call).root ≡ s.root
-after_root s call = refl
-
-pub after_bound : (s : NestState) (call : NestCall) → (after_call s call).bound ≡ s.bound
-after_bound s call = refl

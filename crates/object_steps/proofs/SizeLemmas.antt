@@ -48,20 +48,6 @@ small-class g h class small =
 pub page-most : (page : ℕ) → IsPage page → page ≤ 2 ^ 15
 page-most = by_page (λ page. page ≤ 2 ^ 15) (lit≤ tt) (lit≤ tt) (lit≤ tt) (lit≤ tt)
 
-pub page-least : (page : ℕ) → IsPage page → 0 < page
-page-least = by_page (λ page. 0 < page) (lit< tt) (lit< tt) (lit< tt) (lit< tt)
-
--- the pages of a size are few where it is, and many where it is great
-pub pages-fit : (size page : ℕ) → IsPage page → size ≤ 2 ^ 33 → (size + (page - 1)) / page < 2 ^ 32
-pages-fit size page h few =
-    by_page (λ page. (size + (page - 1)) / page < 2 ^ 32)
-    (omega (arith, few)) (omega (arith, few)) (omega (arith, few)) (omega (arith, few)) page h
-
-pub pages-some : (size page : ℕ) → IsPage page → 0 < size → 0 < (size + (page - 1)) / page
-pages-some size page h some =
-    by_page (λ page. 0 < (size + (page - 1)) / page)
-    (omega (arith, some)) (omega (arith, some)) (omega (arith, some)) (omega (arith, some)) page h
-
 pages-many : (size page : ℕ) → IsPage page → 2 ^ 33 ≤ size → 2 ^ 16 < (size + (page - 1)) / page
 pages-many size page h more =
     by_page (λ page. 2 ^ 16 < (size + (page - 1)) / page)

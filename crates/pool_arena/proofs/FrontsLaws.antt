@@ -7,7 +7,7 @@ use lib.Pow.{pow_pos}
 use Rattle.pool_arena.proofs.ListLaws.{found-is}
 use Rattle.std.proofs.lemmas.List.{map-set, length-set}
 use Rattle.size_classes.specs.Sizes.{Geometry, chunk_pages, class_count, is_small}
-use Rattle.pool_law.specs.Arenas.{front_of, with_front, without_spot, with_subpage}
+use Rattle.pool_law.specs.Arenas.{front_of, with_subpage}
 use Rattle.pool_law.proofs.ListLemmas.{slice_get-set_same, slice_get-set_other, slice_get-below}
 use Rattle.arena_laws.proofs.ChunkSteps.{same_or-not}
 use Rattle.pool_arena.specs.Fronts.{FrontState, with_spots}
@@ -110,29 +110,6 @@ enter-law s class chunk page f h v found is items =
         lists = s.lists.lists;
         fronts =
             (ap (λ (spots : List (ℕ × ℕ)). slice_set (stock_in s).fronts class ((chunk, page) ∷ spots))
-            (front_of-is s class f found)
-            ∙ ap (λ (x : FrontState). slice_set (stock_in s).fronts class x.spots) (sym is)
-            ∙ sym (ap (map (λ (x : FrontState). x.spots)) items ∙ spots-set s.fronts.items class h)) i;
-        takings = takings;
-        out = out;
-      };
-      geometry = refl;
-      grounds = refl;
-    }
-
--- and one that leaves is not among them
-pub leave-law : (s : Inside) (class chunk page : ℕ) (f h : FrontState) (v : Vec FrontState Global)
-    → slice_get s.fronts.items class ≡ Some f
-    → h ≡ with_spots f (without_spot chunk page f.spots) → v.items ≡ slice_set s.fronts.items class h
-    → Becomes (stock_in s) (λ a. with_front a class (without_spot chunk page (front_of a class)))
-    (stock_in (with_fronts s v))
-leave-law s class chunk page f h v found is items =
-    record {
-      law = λ takings out i. record {
-        chunks = (stock_in s).chunks;
-        lists = s.lists.lists;
-        fronts =
-            (ap (λ (spots : List (ℕ × ℕ)). slice_set (stock_in s).fronts class (without_spot chunk page spots))
             (front_of-is s class f found)
             ∙ ap (λ (x : FrontState). slice_set (stock_in s).fronts class x.spots) (sym is)
             ∙ sym (ap (map (λ (x : FrontState). x.spots)) items ∙ spots-set s.fronts.items class h)) i;

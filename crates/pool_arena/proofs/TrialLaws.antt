@@ -1,9 +1,8 @@
 -- A trial is one after each taking, and after its oldest region came back.
-use Rattle.std.proofs.Common.{◌≡◌, ℕ, ◌<◌, List, [], ◌∷◌, ◌++◌, length, arith, refl, sym, ap, ◌∙◌, subst, Bool, true, false, Some, inl, inr, lit<}
+use Rattle.std.proofs.Common.{◌≡◌, ℕ, List, [], ◌∷◌, ◌++◌, length, arith, refl, sym, ap, ◌∙◌, subst, Bool, true, false, Some, inl}
 use Rattle.std.specs.Prelude.{map, slice_get, if◌then◌else◌, not}
 use Rattle.std.proofs.lemmas.List.{map-append}
 use Rattle.ground.specs.Ground.{Origin, Segment}
-use Rattle.size_classes.specs.Sizes.{Geometry, class_count}
 use Rattle.pool_law.specs.declared.id.Place.{Place}
 use Rattle.pool_law.specs.declared.id.Region.{Region}
 use Rattle.pool_law.specs.declared.id.RegionId.{RegionId}
@@ -11,22 +10,12 @@ use Rattle.pool_law.specs.Same.{same_place, same_taking}
 use Rattle.pool_law.proofs.SameLemmas.{and-first, same_place-is}
 use Rattle.arena_laws.specs.Slots.{EachOf, BeginElsewhere}
 use Rattle.arena_laws.proofs.ArenaSteps.{EachOf-push}
-use Rattle.pool_arena.specs.ArenaStates.{ArenaState, IsNew, IsSameArena, IsOutOf, IsInPlaceAt, IsInPlaceUnder, Takes, Gives, AtRest, without_taking}
+use Rattle.pool_arena.specs.ArenaStates.{ArenaState, IsSameArena, IsInPlaceAt, IsInPlaceUnder, Takes, Gives, AtRest, without_taking}
 use Rattle.pool_arena.specs.Trials.{HasOut, IsTrial}
-use Rattle.pool_arena.proofs.OutLaws.{new-out, new-places, take-out, out-of, give-out, none-out, left-first, first-place}
+use Rattle.pool_arena.proofs.OutLaws.{take-out, give-out, none-out, left-first, first-place}
 
 abbrev id_of : Region → RegionId
 id_of r = r.id
-
-pub new-trial : (a : ArenaState) → IsNew 0 8192 9 2 a → IsTrial a []
-new-trial a is =
-    record {
-      number = is.number_is;
-      geometry = is.geometry;
-      places = new-places 0 8192 9 2 a is;
-      out = new-out 0 8192 9 2 a (inr (inl refl)) is;
-      placed = tt;
-    }
 
 -- what is in place stays there
 in-place : (old new : ArenaState) (r : RegionId) (piece : Segment) → IsSameArena old new → IsInPlaceUnder old r piece
@@ -44,10 +33,6 @@ stay-placed : (old new : ArenaState) (rs : List Region) → IsSameArena old new
     → EachOf (λ r. IsInPlaceUnder old r.id r.piece) rs → EachOf (λ r. IsInPlaceUnder new r.id r.piece) rs
 stay-placed old new [] same each = tt
 stay-placed old new (r ∷ rs) same each = (in-place old new r.id r.piece same each.0, stay-placed old new rs same each.1)
-
--- of 4 MiB the quarter is a class
-pub quarter-class : (a : ArenaState) (rs : List Region) → IsTrial a rs → 59 < class_count a.geometry
-quarter-class a rs t = subst (λ (g : Geometry). 59 < class_count g) (sym t.geometry) (lit< tt)
 
 pub taken-trial : (old new : ArenaState) (rs : List Region) (r : Region) → IsTrial old rs → Takes old 59 0 new r.id
     → IsInPlaceAt old r.id r.piece → IsTrial new (rs ++ r ∷ [])
@@ -79,9 +64,6 @@ others-left r (s ∷ out) each = by (others-left r out each.1) (same_taking r s)
         ∙ ap (λ (xs : List RegionId). s ∷ xs) rest
 
 module _ (old : ArenaState) (rs : List Region) (r : Region) (t : IsTrial old (r ∷ rs)) where
-  pub oldest-out : IsOutOf old r.id
-  oldest-out = out-of old r.id (map id_of (r ∷ rs)) t.out (inl refl)
-
   pub given-trial : (new : ArenaState) → Gives old r.id new → IsTrial new rs
   given-trial new gives =
       record {

@@ -11,13 +11,6 @@ use Rattle.pool_c.specs.Codes.{answer_code, code_of}
 use Rattle.pool_c.specs.Handles.{Calls, CallsIf, handle_refusal, HasThread}
 use Rattle.pool_c.specs.Holding.{behind, Holding}
 
--- it was refused before it began
-pub refused_call : {A : Type 0} (o : Option Refusal) (why : Refusal) (answer : Result A Refusal) (old new : Member)
-    (done : A → Type 0) (stopped : Refusal → Type 0) → o ≡ Some why → answer ≡ Err why → new ≡ old
-    → Answers o answer old new done stopped
-refused_call o why answer old new done stopped is told same =
-    subst (λ p. Answers p answer old new done stopped) (sym is) (told, same)
-
 -- it was not
 pub begun_call : {A : Type 0} (o : Option Refusal) (answer : Result A Refusal) (old new : Member) (done : A → Type 0)
     (stopped : Refusal → Type 0) → o ≡ None → MatchResult answer done stopped

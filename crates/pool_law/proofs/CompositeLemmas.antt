@@ -1,5 +1,5 @@
 -- How the copying of parts, and their release, go on after the notes of the first part.
-use Rattle.std.proofs.Common.{eq-eqb, ◌≡◌, ℕ, ◌+◌, List, [], ◌∷◌, length, refl, ap, true, false, Some, None, ◌∙◌}
+use Rattle.std.proofs.Common.{◌≡◌, ℕ, List, [], ◌∷◌, refl, ap, true, false, Some, None, ◌∙◌}
 use Rattle.std.specs.Prelude.{◌==◌, if◌then◌else◌, Option, option_map, option_and_then}
 use Rattle.pool_law.specs.declared.id.RootId.{RootId}
 use Rattle.pool_law.specs.declared.id.Part.{Part}
@@ -13,7 +13,7 @@ use Rattle.pool_law.specs.Counts.{count_of, root_is}
 use Rattle.pool_law.specs.Dids as say
 use Rattle.pool_law.specs.Readers.{ToldNotes, Log, ◌>>◌, nothing, behind_entry, first_of_left, done_at, access}
 use Rattle.pool_law.specs.Patterns.{release}
-use Rattle.pool_law.specs.Lanes.{copy_parts, release_part}
+use Rattle.pool_law.specs.Lanes.{release_part}
 use Rattle.pool_law.proofs.PatternLemmas.{same_number, done_at-is}
 
 pub same_bytes-refl : (xs : List ℕ) → same_bytes xs xs ≡ true
@@ -32,25 +32,6 @@ access-is root says n did log e rest left is here =
     (if b then option_and_then says (done_at (Object.Root root.place) e.note) else None)) here
     ∙ ap (λ d. option_map (λ a. (a, behind_entry log e rest)) (option_and_then says d))
     (ap (done_at (Object.Root root.place)) is ∙ done_at-is (Object.Root root.place) n did)
-
--- after the get and the set of a part, the others are copied behind it
-pub copy_parts-goes_on : (root : RootId) (at n m : ℕ) (bytes : List ℕ) (p : Part) (ps : List Part) (log : Log)
-    (e f : ToldNote) (rest : ToldNotes) →
-    log.left ≡ e ∷ f ∷ rest →
-    e.note ≡ Note.At (Object.Root p.root.place) n (Did.Get p.offset bytes) → root_is p.root e.root ≡ true
-    → length bytes ≡ p.len →
-    f.note ≡ Note.At (Object.Root root.place) m (Did.Set at bytes) → root_is root f.root ≡ true →
-    copy_parts root at (p ∷ ps) log ≡ copy_parts root (at + p.len) ps
-    (behind_entry (behind_entry log e (f ∷ rest)) f rest)
-copy_parts-goes_on root at n m bytes p ps log e f rest left gets here long sets there =
-    let first : access p.root (say.get p.offset p.len) log ≡ Some (bytes, behind_entry log e (f ∷ rest)) =
-    access-is p.root (say.get p.offset p.len) n (Did.Get p.offset bytes) log e (f ∷ rest) left gets here
-    ∙ rw (same_number p.offset, eq-eqb (length bytes) p.len long) refl in
-    let second : access root (say.set at bytes) (behind_entry log e (f ∷ rest))
-    ≡ Some (tt, behind_entry (behind_entry log e (f ∷ rest)) f rest) =
-    access-is root (say.set at bytes) m (Did.Set at bytes) (behind_entry log e (f ∷ rest)) f rest refl sets there
-    ∙ rw (same_number at, same_bytes-refl bytes) refl in
-    rw (first, second) refl
 
 -- a part whose root the lane counts no more is passed by, and any other is released
 pub release_part-gone : (shape : Shape) (p : Part) (log : Log) → count_of p.root log.seen ≡ 0 →

@@ -68,26 +68,6 @@ numbered-append lane n (x ∷ h) e =
     ∙ ap (λ t. t ++ one_if lane (n + 1 + length h) e) (sym (numbered-step lane n x h))
     ∙ ap (λ k. numbered lane n (x ∷ h) ++ one_if lane k e) (omega arith)
 
--- one more note of a lane, with the next number, makes the history one longer
-pub IsHistory-push : (object : Object) (logs more : Logs) (h : History) (lane : ℕ) (did : Did) →
-    IsHistory object logs h →
-    own object (of_lane more lane) ≡ own object (of_lane logs lane) ++ (length h + 1, did) ∷ [] →
-    ((other : ℕ) → other ≢ lane → own object (of_lane more other) ≡ own object (of_lane logs other)) →
-    IsHistory object more (h ++ (lane, did) ∷ [])
-IsHistory-push object logs more h lane did whole here elsewhere other =
-    numbered_is ∙ sym (numbered-append other 1 h (lane, did))
-  where
-    numbered_is : own object (of_lane more other) ≡ numbered other 1 h ++ one_if other (1 + length h) (lane, did)
-    numbered_is =
-        cond_both (lane == other) ((1 + length h, did) ∷ []) []
-        (λ z. own object (of_lane more other) ≡ numbered other 1 h ++ z)
-        (λ same. let e : lane ≡ other = eqb-true lane other same in
-        subst (λ k. own object (of_lane more k) ≡ numbered k 1 h ++ (1 + length h, did) ∷ []) e
-        (here ∙ ap (λ t. t ++ (length h + 1, did) ∷ []) (whole lane)
-        ∙ ap (λ k. numbered lane 1 h ++ (k, did) ∷ []) (omega arith)))
-        (λ no_lane. elsewhere other (λ e. let both : true ≡ false = sym (eq-eqb lane other (sym e))
-        ∙ no_lane in cc both) ∙ whole other ∙ sym (append-nil (numbered other 1 h)))
-
 -- numbers begin at n, so a lesser one is not there
 pub with_number-below : (lane n m : ℕ) (h : History) → m < n → with_number m (numbered lane n h) ≡ None
 with_number-below lane n m [] lt = refl

@@ -6,22 +6,19 @@ use Rattle.pool_law.specs.declared.id.RegionId.{RegionId}
 use Rattle.pool_law.specs.declared.id.Parcel.{Parcel}
 use Rattle.pool_law.specs.declared.id.ViewData.{ViewData}
 use Rattle.pool_law.specs.declared.note.Did.{Did}
-use Rattle.pool_law.specs.declared.note.Did.TheVariants.{Take, Give, Hit, Kept, Shed, Handle, Fetch, Birth, Grow, End}
+use Rattle.pool_law.specs.declared.note.Did.TheVariants.{Take, Hit, Shed, Fetch, Birth, Grow, End}
 use Rattle.pool_law.specs.declared.note.Noted.{Noted}
-use Rattle.pool_law.specs.declared.note.RefDid.{RefDid}
-use Rattle.pool_law.specs.declared.note.RefDid.TheVariants.{Born}
 use Rattle.pool_law.specs.declared.note.Object.{Object}
 use Rattle.pool_law.specs.Same.{same_taking}
 use Rattle.pool_law.proofs.PatternLemmas.{same_taking-refl, same_root-refl}
-use Rattle.history_laws.specs.NoteCounts.{is_root, is_taking, uses_in, did_handle, did_home, did_birth, did_birth_of, did_birth_as, did_end_of, view_of_root, did_fetch_of, did_post_of, arena_out, arena_in, cache_out, cache_in, weight_or, ended_region, place_in}
+use Rattle.history_laws.specs.NoteCounts.{is_root, is_taking, uses_in, did_home, did_birth, did_birth_of, did_birth_as, did_end_of, view_of_root, did_fetch_of, did_post_of, arena_out, arena_in, cache_out, cache_in, weight_or, ended_region, place_in}
 use Rattle.pool_table.specs.declared.views.Entry.{Entry}
-use Rattle.pool_table.specs.declared.views.Entry.TheVariants.{At, Ref}
+use Rattle.pool_table.specs.declared.views.Entry.TheVariants.{At}
 use Rattle.pool_table.specs.declared.views.SeatView.{SeatView}
 use Rattle.pool_table.specs.Views.{with_entry}
-use Rattle.pool_table.specs.Counts.{weigh, on_place, on_root, on_this, ref_born, ref_vacated, ref_gain, ref_loss, fetches, posts, gained_of, lost_of, HasCount, with_ref}
-use Rattle.pool_table.specs.Hands.{at_in, at_out, taken, put_down, grasped, laid, NoneWaits, InHand, at_birth, at_birth_of, at_birth_as, ends, Waits, HasEnded, IsOrderly, from_arena, to_arena, from_cache, to_cache, from_place, to_place, HasRegion, IsLaidDown}
+use Rattle.pool_table.specs.Counts.{weigh, on_place, on_root, on_this, ref_born, ref_vacated, ref_gain, ref_loss, fetches, posts, gained_of, lost_of, HasCount}
+use Rattle.pool_table.specs.Hands.{at_in, at_out, grasped, laid, NoneWaits, InHand, at_birth, at_birth_of, at_birth_as, ends, Waits, HasEnded, IsOrderly, from_arena, to_arena, from_cache, to_cache, from_place, to_place, HasRegion, IsLaidDown}
 use Rattle.pool_table.specs.Learned.{did_take_up}
-use Rattle.pool_table.proofs.Counts.{weigh_ref}
 use Rattle.pool_table.proofs.Weights.{weigh_entry}
 use Rattle.pool_table.proofs.Holdings.{takes_up, lays, taking_key}
 
@@ -67,15 +64,6 @@ module _ (v : SeatView) (o : Object) (k : ℕ) (n : Noted) (t : ℕ) where
 
   abbrev w : SeatView
   w = with_entry v e t
-
-  -- the place of a handle is in hand
-  pub after_handle : (p : ℕ) → n.did ≡ Handle p → put_down p v ≤ taken p v → InHand p w
-  after_handle p is handy =
-      let a = weigh_entry (at_in p) v e t in let b = weigh_entry (at_out p) v e t in
-      let c = weigh_entry (on_place ref_born p) v e t in let d = weigh_entry (on_place ref_vacated p) v e t in
-      let one : did_handle p n.did ≡ 1 = ap (did_handle p) is
-      ∙ ap (λ (b : Bool). cond {A = ℕ} b 1 0) (eq-eqb p p refl) in
-      let none : did_home p n.did ≡ 0 = ap (did_home p) is in omega (arith, a, b, c, d, one, none, handy)
 
   -- the birth that was noted waits
   pub after_birth : (q : RootId) (x : RegionId) → n.did ≡ Birth q x → IsOrderly v → Waits q w
@@ -145,25 +133,6 @@ module _ (v : SeatView) (o : Object) (k : ℕ) (n : Noted) (t : ℕ) where
   pub takes_one : (r : RegionId) → TakesUp r n → 0 < did_take_up r n
   takes_one r up = let a = (lifted r up).one in omega (arith, a)
 
-  pub after_taking : (r : RegionId) → TakesUp r n → IsLaidDown r v → HasRegion r w
-  after_taking r up free =
-      let h = lifted r up in
-      let a = weigh_entry (to_arena (is_taking r)) v e t in let b = weigh_entry (to_cache (is_taking r)) v e t in
-      let c = weigh_entry (to_place (is_taking r)) v e t in
-      let d = weigh_entry (from_arena (is_taking r)) v e t in let f = weigh_entry (from_cache (is_taking r)) v e t in
-      let g = weigh_entry (from_place (is_taking r)) v e t in
-      let a' = weigh_entry (to_arena (uses_in r)) v e t in let b' = weigh_entry (to_cache (uses_in r)) v e t in let c' =
-      weigh_entry (to_place (uses_in r)) v e t in
-      let d' = weigh_entry (from_arena (uses_in r)) v e t in let f' = weigh_entry (from_cache (uses_in r)) v e t in
-      let g' = weigh_entry (from_place (uses_in r)) v e t in
-      let h1 = h.one in let h2 = h.uses in let h3 = h.none in let h4 = h.unused in let h5 = h.unborn in let k1 =
-      free.taking in let k2 = free.uses in
-      record {
-        taking = omega (arith, a, b, c, d, f, g, h1, h3, k1);
-        uses =
-            omega (arith, c, a', b', c', d', f', g', h2, h4, h5, k2);
-      }
-
   -- and stays there while notes leave it alone
   pub after_other : (r : RegionId) → LeavesAlone r e → HasRegion r v → HasRegion r w
   after_other r h has =
@@ -202,42 +171,6 @@ module _ (v : SeatView) (o : Object) (k : ℕ) (n : Noted) (t : ℕ) where
         uses =
             omega (arith, c, a', b', c', d', f', g', h3, h4, k2);
       }
-
-  pub after_laying : (r : RegionId) → (n.did ≡ Give r) ⊎ (n.did ≡ Kept r) → HasRegion r v
-      → grasped (is_taking r) v ≤ laid (is_taking r) v + 1 → IsLaidDown r w
-  after_laying r (inl is) has once =
-      let own = its_own r in let a = own.0 in let b = own.1 in
-      let f : (x : RegionId → ℕ) → lays x e ≡ x r + (0 + 0) =
-      (λ x. ap (λ (d : Did). arena_in x d + (cache_in x d + place_in x d)) is) in
-      let g : (x : RegionId → ℕ) → takes_up x e ≡ 0 =
-      (λ x. ap (λ (d : Did). arena_out x d + (cache_out x d + weight_or x (ended_region d n.region))) is) in
-      let h : to_place (is_taking r) e ≡ 0 = ap (place_in (is_taking r)) is in
-      let f1 = f (is_taking r) in let f2 = f (uses_in r) in
-      laid_down r (omega (arith, f1, a)) (g (is_taking r)) (g (uses_in r)) (omega (arith, f2, b, h)) has once
-  after_laying r (inr is) has once =
-      let own = its_own r in let a = own.0 in let b = own.1 in
-      let f : (x : RegionId → ℕ) → lays x e ≡ 0 + (x r + 0) =
-      (λ x. ap (λ (d : Did). arena_in x d + (cache_in x d + place_in x d)) is) in
-      let g : (x : RegionId → ℕ) → takes_up x e ≡ 0 =
-      (λ x. ap (λ (d : Did). arena_out x d + (cache_out x d + weight_or x (ended_region d n.region))) is) in
-      let h : to_place (is_taking r) e ≡ 0 = ap (place_in (is_taking r)) is in
-      let f1 = f (is_taking r) in let f2 = f (uses_in r) in
-      laid_down r (omega (arith, f1, a)) (g (is_taking r)) (g (uses_in r)) (omega (arith, f2, b, h)) has once
-
-  -- nor is the region of a birth
-  pub after_bearing : (q : RootId) (r : RegionId) → n.did ≡ Birth q (record r { uses = r.uses + 1 }) → HasRegion r v
-      → grasped (is_taking r) v ≤ laid (is_taking r) v + 1 → IsLaidDown r w
-  after_bearing q r is has once =
-      let z : RegionId = record r { uses = r.uses + 1 } in
-      let a : is_taking r z ≡ 1 = ap (λ (b : Bool). cond {A = ℕ} b 1 0) (same_taking-refl r) in let b : uses_in r z
-      ≡ r.uses + 1 = ap (λ (b : Bool). cond {A = ℕ} b (r.uses + 1) 0) (same_taking-refl r) in
-      let f : (x : RegionId → ℕ) → lays x e ≡ 0 + (0 + x z) =
-      (λ x. ap (λ (d : Did). arena_in x d + (cache_in x d + place_in x d)) is) in
-      let g : (x : RegionId → ℕ) → takes_up x e ≡ 0 =
-      (λ x. ap (λ (d : Did). arena_out x d + (cache_out x d + weight_or x (ended_region d n.region))) is) in
-      let h : to_place (is_taking r) e ≡ is_taking r z = ap (place_in (is_taking r)) is in
-      let f1 = f (is_taking r) in let f2 = f (uses_in r) in
-      laid_down r (omega (arith, f1, a)) (g (is_taking r)) (g (uses_in r)) (omega (arith, f2, a, b, h)) has once
 
   -- a region that isn't in hand is of another taking than one that is
   apart : (r z : RegionId) → IsLaidDown r v → HasRegion z v → same_taking r z ≡ false
@@ -289,34 +222,3 @@ module _ (v : SeatView) (o : Object) (k : ℕ) (n : Noted) (t : ℕ) where
   none_waits p z none =
       let a = weigh_entry (at_birth p) v e t in let b = weigh_entry (on_place ref_born p) v e t in
       omega (arith, a, b, z, none)
-
--- a birth that is made waits no more
-pub after_born : (v : SeatView) (q : RootId) (m : ℕ)
-    → weigh (at_birth q.place) v ≤ weigh (on_place ref_born q.place) v + 1 → NoneWaits q.place (with_ref v q Born m)
-after_born v q m le =
-    let a = weigh_ref (at_birth q.place) v q Born m in let b = weigh_ref (on_place ref_born q.place) v q Born m in
-    let z : at_birth q.place (Ref q Born) ≡ 0 = refl in
-    let one : on_place ref_born q.place (Ref q Born)
-    ≡ 1 = ap (λ (t : Bool). cond {A = ℕ} t 1 0) (eq-eqb q.place q.place refl) in
-    omega (arith, a, b, z, one, le)
-
--- steps on words move no region
-pub after_step : (v : SeatView) (q : RootId) (d : RefDid) (m : ℕ) (r : RegionId) → HasRegion r v
-    → HasRegion r (with_ref v q d m)
-after_step v q d m r has =
-    let a = weigh_ref (to_arena (is_taking r)) v q d m in let b = weigh_ref (to_cache (is_taking r)) v q d m in let c =
-    weigh_ref (to_place (is_taking r)) v q d m in
-    let x = weigh_ref (from_arena (is_taking r)) v q d m in let f = weigh_ref (from_cache (is_taking r)) v q d m in
-    let g = weigh_ref (from_place (is_taking r)) v q d m in
-    let a' = weigh_ref (to_arena (uses_in r)) v q d m in let b' = weigh_ref (to_cache (uses_in r)) v q d m in let c' =
-    weigh_ref (to_place (uses_in r)) v q d m in
-    let x' = weigh_ref (from_arena (uses_in r)) v q d m in let f' = weigh_ref (from_cache (uses_in r)) v q d m in
-    let g' = weigh_ref (from_place (uses_in r)) v q d m in
-    let k1 = has.taking in let k2 = has.uses in
-    let none : (w : RegionId → ℕ) → takes_up w (Ref q d) + lays w (Ref q d) ≡ 0 = (λ w. refl) in
-    let n1 = none (is_taking r) in let n2 = none (uses_in r) in
-    record {
-      taking = omega (arith, a, b, c, x, f, g, n1, k1);
-      uses =
-          omega (arith, c, a', b', c', x', f', g', n1, n2, k2);
-    }

@@ -164,11 +164,6 @@ in_empty q p none_of before after early late o j k m n has is where_is lt =
 abbrev pub HasNone : SeatView → Type 0
 HasNone v = All (λ (p : Part). p.notes ≡ []) (parts_of v)
 
--- all parts of a view without notes are in order with a part
-empty_view : (q : Part) (v : SeatView) → HasNone v → All (IsInOrder q) (parts_of v)
-empty_view q v none_of =
-    All-weaker (λ (p : Part). p.notes ≡ []) (IsInOrder q) (λ p e. in_empty q p e) (parts_of v) none_of
-
 with_view : (q : Part) (ps : List Part) → q.notes ≡ [] → All (IsInOrder q) ps
 with_view q [] e = All-nil (IsInOrder q)
 with_view q (p ∷ ps) e = All-cons (IsInOrder q) p ps (empty_in q p e) (with_view q ps e)
@@ -187,18 +182,6 @@ pub order_opens : (v : SeatView) → HasNone v → AreInOrder (v ∷ [])
 order_opens v none_of =
     All-cons (λ (u : SeatView). All (IsInOrderWith (v ∷ [])) (parts_of u)) v [] (empty_with (v ∷ []) v none_of)
     (All-nil (λ (u : SeatView). All (IsInOrderWith (v ∷ [])) (parts_of u)))
-
--- one view more, without notes
-pub order_more : (views : List SeatView) (v : SeatView) → HasNone v → AreInOrder views → AreInOrder (views ++ v ∷ [])
-order_more views v none_of all =
-    let after : List SeatView = views ++ v ∷ [] in
-    let one : (q : Part) → IsInOrderWith views q → IsInOrderWith after q =
-    (λ q r. All-push (λ (u : SeatView). All (IsInOrder q) (parts_of u)) views v r (empty_view q v none_of)) in
-    All-push (λ (u : SeatView). All (IsInOrderWith after) (parts_of u)) views v
-    (All-weaker (λ (u : SeatView). All (IsInOrderWith views) (parts_of u))
-    (λ (u : SeatView). All (IsInOrderWith after) (parts_of u))
-    (λ u. All-weaker (IsInOrderWith views) (IsInOrderWith after) one (parts_of u)) views all)
-    (empty_with after v none_of)
 
 -- any change of views under which each part is one that was there, or has no notes
 pub order_regroups : (views after : List SeatView)

@@ -1,6 +1,6 @@
 -- A cache stands for one note more after each step, and its object accepts the note.
 use Rattle.std.proofs.Common.{◌≡◌, ℕ, zero, suc, List, [], ◌∷◌, ◌++◌, refl, sym, ap, subst, arith, Bool, true, false, Some, None, ◌∙◌}
-use Rattle.std.specs.Prelude.{if◌then◌else◌, Option, option_and_then, IsTrue, is_some}
+use Rattle.std.specs.Prelude.{if◌then◌else◌, Option, option_and_then}
 use Rattle.std.specs.List.{All}
 use Rattle.std.proofs.lemmas.List.Elements.{All-append}
 use Rattle.ground.specs.Grounds.{Grounds}
@@ -75,19 +75,3 @@ stands_as_told grounds lane class h q c stands same accepted =
     subst (λ capacity. cache_told capacity h ≡ Some (cache_of q)) same stands.told in
     let both : Some c ≡ Some (cache_of q) = sym (of_class lane class (noted_dids h) new_cache c accepted) ∙ told in
     cc both
-
--- and a step of it is a note that its object accepts
-pub accepted_more : (grounds : Grounds) (lane class : ℕ) (h : List Noted) (n : Noted) (old new : Queue) (c : Cache) →
-    StandsFor grounds h old → old.capacity ≡ cache_capacity class → cache_after lane class (noted_dids h) ≡ Some c →
-    is_own lane class n.did ≡ true → Makes old n.did new →
-    IsTrue (is_some (cache_after lane class (noted_dids (h ++ n ∷ []))))
-accepted_more grounds lane class h n old new c stands capacity accepted own makes =
-    let here : c ≡ cache_of old = stands_as_told grounds lane class h old c stands capacity accepted in
-    let made : cache_step (cache_capacity class) (cache_of old) n.did ≡ Some (cache_of new) =
-    subst (λ m. cache_step m (cache_of old) n.did ≡ Some (cache_of new)) capacity makes.step in
-    let step : cache_after lane class (noted_dids (h ++ n ∷ [])) ≡ Some (cache_of new) =
-    after-noted (lane_cache_step lane class) new_cache h n
-    ∙ ap (option_and_then (λ t. lane_cache_step lane class t n.did)) (accepted ∙ ap Some here)
-    ∙ ap (λ b. if b then cache_step (cache_capacity class) (cache_of old) n.did else None) own
-    ∙ made in
-    ap is_some step

@@ -1,5 +1,5 @@
 -- Mails as the program reads them.
-use Rattle.std.proofs.Common.{◌≡◌, ℕ, zero, suc, ◌+◌, ◌-◌, ◌≤◌, ◌<◌, Bool, true, false, List, [], ◌∷◌, ◌++◌, length, map, take, get_or, Option, None, Some, refl, sym, ap, subst, arith, ◌∙◌, eqb-true, eq-eqb}
+use Rattle.std.proofs.Common.{◌≡◌, ℕ, zero, suc, ◌+◌, ◌-◌, ◌≤◌, ◌<◌, Bool, true, false, List, [], ◌∷◌, ◌++◌, length, take, get_or, Option, None, Some, refl, sym, ap, subst, arith, ◌∙◌, eqb-true, eq-eqb}
 use Rattle.std.specs.Prelude.{◌==◌, ◌&&◌, if◌then◌else◌, slice_get, MatchOption}
 use Rattle.std.proofs.lemmas.Option.{none-some, same_Some}
 use Rattle.pool_law.specs.declared.id.Parcel.{Parcel}
@@ -48,15 +48,6 @@ fetched-among mail (Busy held ∷ ns) = fetched-among mail ns
 -- the parcels are told by their numbers and contents
 abbrev passed_of : ℕ × Parcel → Passed
 passed_of x = record { number = x.0; parcel = x.1 }
-
-all-back : (ps : List Passed) → map passed_of (all_passed ps) ≡ ps
-all-back [] = refl
-all-back (p ∷ ps) = ap (λ qs. p ∷ qs) (all-back ps)
-
-take-passed : (n : ℕ) (ps : List Passed) → all_passed (take n ps) ≡ take n (all_passed ps)
-take-passed zero ps = refl
-take-passed (suc n) [] = refl
-take-passed (suc n) (p ∷ ps) = ap (λ xs. passed_data p ∷ xs) (take-passed n ps)
 
 get-passed : (ps : List Passed) (k : ℕ) (x : ℕ × Parcel) → slice_get (all_passed ps) k ≡ Some x
     → (p : Passed) × (slice_get ps k ≡ Some p) × (passed_data p ≡ x)

@@ -11,9 +11,6 @@ use Rattle.run_check.proofs.DifferLemmas.{get-there, differ-here, differ-longer}
 none-some : (leak : Leak) → None ≡ Some leak → ⊥
 none-some leak e = absurd (cc e)
 
-pub goes-nowhere : (report : List Leak) (at : ℕ) → at ≤ length report → GoesOn report at [] at
-goes-nowhere report at inside = (sym (append-nil (take at report)), inside)
-
 -- the next leak is this, or it is not
 pub goes-by-one : (report : List Leak) (at : ℕ) (d leak : Leak) → at < length report → get_or report at d ≡ leak →
     GoesOn report at (leak ∷ []) (at + 1)

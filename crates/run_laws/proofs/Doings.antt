@@ -113,14 +113,6 @@ module _ (logs : Logs) where
         cc same,
       )
 
-  pub one-leaver : (e : Event) (p q : RootId) (r s : RegionId) → Does (Leaves p r) e → Does (Leaves q s) e
-      → (p ≡ q) × (r ≡ s)
-  one-leaver e p q r s a b =
-      let same = one-present e a.1.0 b.1.0 a.1.1 b.1.1 in (
-        sym a.1.2 ∙ ap (λ x. x.root) same ∙ b.1.2,
-        sym a.1.3 ∙ ap (λ x. x.region) same ∙ b.1.3,
-      )
-
   -- the region that a note leaves is that of what is present
   pub left-region : (o : Object) (k : ℕ) (d : Did) (p : Present) → EndsUse d → present_at logs o k ≡ Some p
       → (entry_of logs (At o k d)).region ≡ Some p.region

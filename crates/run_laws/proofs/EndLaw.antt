@@ -29,7 +29,7 @@ use Rattle.pool_law.proofs.SameLemmas.{same_root-is}
 use Rattle.pool_law.proofs.PatternLemmas.{same_root-refl}
 use Rattle.pool_law.proofs.HistoryLemmas.{log-past}
 use Rattle.pool_law.proofs.LogLemmas.{entry-note}
-use Rattle.run_laws.proofs.Sums.{below-or, over-none, sum_by, sum_over, over-at, over-one, over-found}
+use Rattle.run_laws.proofs.Sums.{below-or, over-none, sum_by, sum_over, over-at, over-found}
 use Rattle.run_laws.proofs.Numbered.{plain, total-plain, at_object, regroup}
 use Rattle.run_laws.proofs.HandTotals.{note-placed}
 use Rattle.run_laws.proofs.Draining.{grant, shed_one, close_one}
@@ -297,15 +297,6 @@ module _ (shape : Shape) (logs : Logs) (holds : HistoriesPaged shape logs) (acts
     ended-dead root r u d =
         let t : TotalHolds root (entries_of logs) = counts.totals root (birth-counts root r u) in
         t.ends_at_zero.0 (omega (arith, end-counts root d, ends-most root r u, ends-over root))
-
-    pub end-one : (root : RootId) (r : RegionId) → IsBirth logs root r
-        → (a b : Done logs (Object.Root root.place) (End root)) → a.number ≡ b.number
-    end-one root r u a b =
-        let notes : At (Object.Root root.place) a.number (End root) ≡ At (Object.Root root.place) b.number (End root) =
-        over-one (end_weight root) logs a.lane b.lane a.at b.at (At (Object.Root root.place) a.number (End root))
-        (At (Object.Root root.place) b.number (End root)) a.stands b.stands (ends-most root r u)
-        (omega (arith, ap one (same_root-refl root))) (omega (arith, ap one (same_root-refl root))) in
-        cc notes
 
     -- a root is born once, so with one region
     pub births-most : (root : RootId) (r : RegionId) → IsBirth logs root r → sum_over (birth_weight root) logs ≤ 1

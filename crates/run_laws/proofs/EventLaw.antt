@@ -6,26 +6,26 @@ use Rattle.pool_law.specs.declared.id.RootId.{RootId}
 use Rattle.pool_law.specs.declared.id.RegionId.{RegionId}
 use Rattle.pool_law.specs.declared.note.Object.{Object}
 use Rattle.pool_law.specs.declared.note.Did.{Did}
-use Rattle.pool_law.specs.declared.note.Did.TheVariants.{Take, Give}
+use Rattle.pool_law.specs.declared.note.Did.TheVariants.{Take}
 use Rattle.pool_law.specs.declared.note.Note.{Note}
 use Rattle.pool_law.specs.declared.note.Note.TheVariants.{At}
 use Rattle.pool_law.specs.declared.run.Shape.{Shape}
 use Rattle.pool_law.specs.Logs.{Logs, dids, of_lane, has_history, history_of, entry_of}
 use Rattle.pool_law.specs.Lives.{StandsAt, Done, Event, Stands, arena_of, Begins, Leaves}
 use Rattle.run_laws.specs.CacheCounts.{one_of}
-use Rattle.run_laws.specs.HandCounts.{one_same, ended_by, given_by}
+use Rattle.run_laws.specs.HandCounts.{one_same, ended_by}
 use Rattle.pool_law.proofs.PatternLemmas.{same_region-refl}
 use Rattle.pool_law.proofs.LogLemmas.{dids-at}
 use Rattle.run_laws.proofs.PagedHistories.{HistoriesPaged}
 use Rattle.run_laws.proofs.LogEntries.{LanesAct}
 use Rattle.run_laws.proofs.Sums.{sum_over, over-at, over-place}
 use Rattle.run_laws.proofs.Numbered.{in-history, in-log, rises-in_log}
-use Rattle.run_laws.proofs.Totals.{dids-there, note_tally, born_by, takes, takes_in, gives_in, births_in, ends_in}
-use Rattle.run_laws.proofs.HandTotals.{note-placed, takes-most, given-total}
+use Rattle.run_laws.proofs.Totals.{dids-there, note_tally, born_by, takes, takes_in, births_in, ends_in}
+use Rattle.run_laws.proofs.HandTotals.{note-placed, takes-most}
 use Rattle.run_laws.proofs.HandSteps.{EndsUse}
 use Rattle.run_laws.proofs.CacheRanks.{total-inside, total-before}
 use Rattle.run_laws.proofs.Doings.{Does, left-region}
-use Rattle.run_laws.proofs.LifeLaw.{born-most, ends-most_of, given-most}
+use Rattle.run_laws.proofs.LifeLaw.{born-most, ends-most_of}
 use Rattle.arena_laws.proofs.SlotLemmas.{three}
 
 -- a note as an event
@@ -165,16 +165,6 @@ module _ (shape : Shape) (logs : Logs) (holds : HistoriesPaged shape logs) (acts
         leaves-weight logs root r e does,
       )
 
-  pub gives-in : (r : RegionId) (e : Event) → Stands logs e → e.did ≡ Give r → 1 ≤ gives_in logs r
-  gives-in r e s is =
-      omega (
-        arith,
-        over-at (note_tally logs (given_by r)) logs e.lane e.at (At e.object e.number (Give r))
-            (stands-as logs e (Give r) s is),
-        given-total shape logs holds acts r,
-        ap one_of (same_region-refl r),
-      )
-
   -- a Take is at its region's arena, and of a region without uses
   pub take-noted : (r : RegionId) (c : ℕ) (e : Event) → Stands logs e → e.did ≡ Take c r
       → (e.object ≡ arena_of r) × ((r.uses ≡ 0) × (r.class ≡ c))
@@ -205,14 +195,6 @@ module _ (shape : Shape) (logs : Logs) (holds : HistoriesPaged shape logs) (acts
   same-leaves r p q e g s t a b =
       one-event logs (note_tally logs (ended_by r)) (ends-most_of shape logs holds acts r) e g s t
       (leaves-weight logs p r e a) (leaves-weight logs q r g b)
-
-  pub same-gives : (r : RegionId) (e g : Event) → Stands logs e → Stands logs g → e.did ≡ Give r → g.did ≡ Give r
-      → e ≡ g
-  same-gives r e g s t a b =
-      one-event logs (note_tally logs (given_by r))
-      (omega (arith, given-total shape logs holds acts r, given-most shape logs holds acts r)) e g s t
-      (omega (arith, ap (λ d. note_tally logs (given_by r) (At e.object e.number d)) a, ap one_of (same_region-refl r)))
-      (omega (arith, ap (λ d. note_tally logs (given_by r) (At g.object g.number d)) b, ap one_of (same_region-refl r)))
 
   pub same-takes : (r : RegionId) (c d : ℕ) (e g : Event) → Stands logs e → Stands logs g → e.did ≡ Take c r
       → g.did ≡ Take d r → e ≡ g

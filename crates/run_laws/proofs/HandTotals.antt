@@ -199,10 +199,6 @@ module _ (shape : Shape) (logs : Logs) (holds : HistoriesPaged shape logs) (acts
           given-total,
         )
 
-    -- what is used was taken or hit
-    pub births-less : births_in logs (one_more r) ≤ takes_in logs r + hits_in logs r
-    births-less = omega (arith, (hands-total r logs acts).got, got-total, used-total)
-
     -- what is shed is given back
     pub drops : sheds_in logs r ≤ gives_in logs r
     drops = omega (arith, (hands-total r logs acts).given, shed-total, given-total)

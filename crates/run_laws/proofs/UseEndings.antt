@@ -67,10 +67,6 @@ module _ (shape : Shape) (logs : Logs) (holds : HistoriesPaged shape logs) (acts
       same-leaves shape logs holds acts r root root (end_event (left-ends root r l)) l.event u.stands l.stands
       (end-does logs root r (left-ends root r l)) l.does
 
-  pub ends-left : (root : RootId) (r : RegionId) → UseEnds logs root r → LeftBy shape logs holds acts root r
-  ends-left root r u =
-      record { event = end_event u; stands = u.stands; does = end-does logs root r u }
-
   -- a growth out of the region ends its use
   abbrev pub growth_event : {root : RootId} {r : RegionId} → GrowsOut logs root r → Event
   growth_event {root = root} g =

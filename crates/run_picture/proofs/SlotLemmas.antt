@@ -199,8 +199,3 @@ put_at-past [] k e past = refl
 put_at-past (o ∷ slots) zero e past = absurd (omega (arith, past))
 put_at-past (o ∷ slots) (suc k) e past =
     ap (λ (s : Slots). option_map done_in o ∷ s) (put_at-past slots k e (omega (arith, past)))
-
--- a number from 1 on is that of the slot before it
-pub put-number : (s : Slots) (n : ℕ) (e : ℕ × Did) → (n ≡ 0 → ⊥) → put_at s (n - 1) e ≡ put s n e
-put-number s zero e some = absurd (some refl)
-put-number s (suc k) e some = let same : suc k - 1 ≡ k = omega arith in ap (λ j. put_at s j e) same

@@ -88,9 +88,6 @@ pub record StockedTo (pool : SharedPool) (composites : List (List (List ℕ))) (
       → IsCoreOf pool k (slice_index_or composites k []) c × (reserve BOARD_TURNS ≤ turns_of c)
 
 module _ (pool : SharedPool) (composites : List (List (List ℕ))) where
-  pub stocked_none : StockedTo pool composites 0 []
-  stocked_none = record { many = refl; each = λ k c e. absurd (cc e) }
-
   pub stocked_more : (n : ℕ) (cores : List Core) (c : Core) → StockedTo pool composites n cores
       → IsCoreOf pool n (slice_index_or composites n []) c × (reserve BOARD_TURNS ≤ turns_of c)
       → StockedTo pool composites (n + 1) (cores ++ c ∷ [])
@@ -110,10 +107,6 @@ module _ (pool : SharedPool) (composites : List (List (List ℕ))) where
       → All (λ (c : Core). IsPoolSeat pool c.seat) cores
   stocked_seats n cores was k d lt =
       (was.each k (get_or cores k d) (slice_get-get_or cores k d lt)).0.core_is.fit.seat_is
-
-  pub stocked_all : (cores : List Core) → StockedTo pool composites (length composites) cores
-      → AreStocked pool composites cores
-  stocked_all cores was = record { many = was.many; each = was.each }
 
   pub are_cores : (cores : List Core) → AreStocked pool composites cores → AreCores pool BOARD_TURNS cores
   are_cores cores stocked k d lt =

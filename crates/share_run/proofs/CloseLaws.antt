@@ -1,7 +1,6 @@
 -- How the composites end, and what their seats are then.
 use Rattle.std.proofs.Common.{◌≡◌, ℕ, suc, ◌+◌, ◌<◌, List, [], ◌∷◌, ◌++◌, length, map, get_or, refl, sym, ap, ◌∙◌, subst, arith, inl, inr, length-append, Some, None}
 use Rattle.std.specs.Prelude.{Option, All, filter_map, slice_get}
-use Rattle.std.proofs.lemmas.List.{length-map}
 use Rattle.std.proofs.lemmas.Option.{slice_get-get_or}
 use mathlib.Core.Logic.{dite}
 use native.Mathlib.Decide.{ℕ_discrete}
@@ -22,7 +21,7 @@ use Rattle.shared_composite.specs.declared.board.Board.{Board}
 use Rattle.shared_composite.specs.declared.board.BoardSeat.{BoardSeat}
 use Rattle.shared_composite.specs.declared.cores.Core.{Core}
 use Rattle.shared_composite.specs.Boards as boards
-use Rattle.shared_composite.specs.Cores.{HasStepped, IsEmptied, IsOver, IsUnderway}
+use Rattle.shared_composite.specs.Cores.{HasStepped, IsEmptied, IsUnderway}
 use Rattle.shared_composite.proofs.CoreLaws.{underway}
 use Rattle.share_run.specs.Standing.{AreSpent, IsChief, IsCoreOf, IsEnding, IsOfLane, IsSpent, spent_by}
 use Rattle.share_run.proofs.BoardLaws.{get_push}
@@ -72,15 +71,6 @@ ending_on pool lane inputs old new (Pending held) was is (same, found) = record 
 ending_on pool lane inputs old new (Waiting sender) was is did = absurd did
 ending_on pool lane inputs old new Finished was is did = subst (IsEnding pool lane inputs) (sym did) was
 
--- so many components were released
-pub over_released : (pool : SharedPool) (lane : ℕ) (inputs : List (List ℕ)) (c : Core) → IsEnding pool lane inputs c
-    → IsOver c → c.next ≡ length inputs
-over_released pool lane inputs c was over =
-    over.next
-    ∙ sym (length-map c.parts (λ (p : Part). p.len))
-    ∙ ap (λ (ns : List ℕ). length ns) was.lens
-    ∙ length-map inputs (λ (x : List ℕ). length x)
-
 -- the seat of a core that is over
 pub spent_seat : (pool : SharedPool) (lane : ℕ) (inputs : List (List ℕ)) (c : Core) (s : PoolSeat)
     → IsEnding pool lane inputs c → s ≡ c.seat → IsEmptied pool s → IsSpent pool lane s
@@ -97,9 +87,6 @@ spent_seat pool lane inputs c s was same emptied =
 pub record SpentTo (pool : SharedPool) (n : ℕ) (seats : List PoolSeat) : Type 0 where
   pub many : length seats ≡ n
   pub each : AreSpent pool seats
-
-pub spent_none : (pool : SharedPool) → SpentTo pool 0 []
-spent_none pool = record { many = refl; each = λ k s e. absurd (cc e) }
 
 pub spent_more : (pool : SharedPool) (n : ℕ) (seats : List PoolSeat) (s : PoolSeat) → SpentTo pool n seats
     → IsSpent pool n s → SpentTo pool (n + 1) (seats ++ s ∷ [])

@@ -188,15 +188,6 @@ pub joined_spent : (old other new : BoardSeat) → HasView new (joined (view_of 
 joined_spent old other new has =
     ap spent (view_is new (joined (view_of old) (view_of other)) has) ∙ spent_joined (view_of old) (view_of other)
 
--- a deal after another
-pub deals_on : (t m s u n r all : ℕ) (old mid new : BoardView) → Deals t m s old mid → Deals u n r mid new
-    → all ≡ s + r → Deals (t + u) (m + n) all old new
-deals_on t m s u n r all old mid new x y all_is = record {
-  turns_left = (let a = x.turns_left in let b = y.turns_left in omega (arith, a, b));
-  moves_left = (let a = x.moves_left in let b = y.moves_left in omega (arith, a, b));
-  spent_is = (let a = x.spent_is in let b = y.spent_is in omega (arith, a, b, all_is));
-}
-
 -- a deal of no turns after it
 pub deals_more : (share m n s r all : ℕ) (old mid new : BoardView) → Deals share m s old mid → Deals 0 1 r mid new
     → n ≡ m + 1 → all ≡ s + r → Deals share n all old new

@@ -26,12 +26,6 @@ turns_more c n m share t u is enough left =
     let a : n * share ≡ (m + 1) * share = ap (λ (x : ℕ). x * share) is in
     let b : (m + 1) * share ≡ m * share + share = omega arith in omega (arith, a, b, enough, left)
 
--- and so is one share at least
-pub share_fits : (c n m share t : ℕ) → n ≡ m + 1 → c + n * share ≤ t → c + share ≤ t
-share_fits c n m share t is enough =
-    let a : n * share ≡ (m + 1) * share = ap (λ (x : ℕ). x * share) is in
-    let b : (m + 1) * share ≡ m * share + share = omega arith in omega (arith, a, b, enough)
-
 pub moves_more : (at : ℕ) (readers : List Reader) (d : Reader) → at < length readers
     → moves_for (asked_of (drop at readers))
     ≡ length (get_or readers at d).seen.items + 1 + moves_for (asked_of (drop (at + 1) readers))

@@ -18,7 +18,7 @@ use Rattle.shared_composite.specs.declared.board.BoardSeat.{BoardSeat}
 use Rattle.shared_composite.specs.declared.cores.Core.{Core}
 use Rattle.shared_composite.specs.Boards.{IsMadeOf}
 use Rattle.seat_work.proofs.FirstSeats.{fresh_counts, opened_works}
-use Rattle.share_text.specs.Inputs.{IsInput, IsFew, read_count, reader_limit}
+use Rattle.share_text.specs.Inputs.{IsInput, read_count}
 use Rattle.share_text.specs.Lines.{seen_in, seen_of, text_of, text_with}
 use Rattle.share_text.specs.declared.lines.Seen.{Seen}
 use Rattle.share_text.specs.declared.inputs.Input.{Input}
@@ -57,20 +57,6 @@ moves_fit readers reads most few up =
 -- each composite of an input is within its limits
 pub are_bounded : (input : Input) → IsInput input → AreBounded input.composites
 are_bounded input is k d lt = record { few = is.parts k d lt; short = is.bytes k d lt }
-
--- each read is of one of the wholes
-pub reads_below : (input : Input) (wholes : List (List ℕ)) → IsInput input → wholes ≡ map concat input.composites
-    → All (All (λ k. k < length wholes)) input.readers
-reads_below input wholes is are i d lt k e below =
-    let a = is.reads i d lt k e below in let b = wholes_many input.composites wholes are in omega (arith, a, b)
-
--- readers that ask what few lists say are few
-pub readers_few : (readers : List Reader) (asked : List (List ℕ)) → asked_of readers ≡ asked → IsFew reader_limit asked
-    → IsFew reader_limit readers
-readers_few readers asked is few =
-    let a = length-map readers (λ (r : Reader). asked_in r.seen.items) in
-    let b = ap (λ (xs : List (List ℕ)). length xs) is in
-    (omega (arith, a, b, few.0), omega (arith, a, b, few.1))
 
 -- what was seen, where it is what the input asks for, has the text of the input
 pub text_is : (input : Input) (seen : List (List Seen)) (old new : List Reader) (released text : List ℕ)

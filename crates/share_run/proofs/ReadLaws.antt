@@ -1,10 +1,8 @@
 -- What reads and releases leave of a reader's seat.
-use Rattle.std.proofs.Common.{◌≡◌, ℕ, ◌+◌, ◌-◌, ◌<◌, Bool, ◌==◌, List, [], ◌∷◌, ◌++◌, length, map, take, drop, get_or, set, refl, sym, ap, ◌∙◌, subst, arith, eq-eqb}
+use Rattle.std.proofs.Common.{◌≡◌, ℕ, ◌+◌, ◌-◌, ◌<◌, Bool, ◌==◌, List, [], ◌∷◌, ◌++◌, length, map, take, drop, get_or, set, refl, sym, ap, ◌∙◌, arith, eq-eqb}
 use Rattle.std.specs.Prelude.{All, if◌then◌else◌}
 use Rattle.std.proofs.lemmas.List.{map-append, take_more, take_more_set}
 use Rattle.std.proofs.lemmas.List.Sums.{sum_by-cons}
-use mathlib.Core.Logic.{dite}
-use native.Mathlib.Decide.{ℕ_discrete}
 use Rattle.board_table.specs.declared.views.BoardView.{BoardView}
 use Rattle.board_table.specs.Seats.{Counts}
 use Rattle.board_table.specs.Views.{done, released, spent}
@@ -13,15 +11,11 @@ use Rattle.shared_composite.specs.declared.board.BoardSeat.{BoardSeat}
 use Rattle.shared_composite.specs.Boards.{HasView, IsSeatOf, view_of}
 use Rattle.share_text.specs.declared.lines.Seen.{Seen}
 use Rattle.share_run.specs.Reading.{Covers, Keeps, Names, asked_in, seen_whole, times_in}
-use Rattle.share_run.specs.Standing.{spent_by}
 use Rattle.share_run.proofs.DealLaws.{view_is}
 use Rattle.share_run.proofs.ListSteps.{left_more, length_set, next_item}
-use Rattle.share_run.proofs.Views.{counts_of, done_counts, spent_done, released_own, released_other, spent_released}
+use Rattle.share_run.proofs.Views.{counts_of, done_counts, spent_done}
 
 -- ---- One read.
-
-pub keeps_self : (board : Board) (s : BoardSeat) → IsSeatOf board s → Keeps board s s
-keeps_self board s own = record { own = own; counts = λ j. refl; spent = refl }
 
 pub keeps_on : (board : Board) (old mid new : BoardSeat) → Keeps board old mid → Keeps board mid new
     → Keeps board old new
@@ -42,14 +36,6 @@ module _ (board : Board) (k : ℕ) (old new : BoardSeat) (own : IsSeatOf board n
         spent = ap spent is ∙ spent_done k (view_of old) has turn;
       }
 
-  pub turns_done : HasView new (done k (view_of old)) → (view_of new).turns ≡ (view_of old).turns - 1
-  turns_done view = ap (λ (v : BoardView). v.turns) (view_is new (done k (view_of old)) view)
-
-  pub keeps_same : HasView new (view_of old) → Keeps board old new
-  keeps_same view =
-      let is = view_is new (view_of old) view in
-      record { own = own; counts = λ j. ap (counts_of j) is; spent = ap spent is }
-
   pub turns_same : HasView new (view_of old) → (view_of new).turns ≡ (view_of old).turns
   turns_same view = ap (λ (v : BoardView). v.turns) (view_is new (view_of old) view)
 
@@ -64,17 +50,11 @@ all_counted names seen v covers has k d lt = covers_counts names v (get_or seen 
 -- ---- All reads, one after another.
 
 module _ (wholes : List (List ℕ)) where
-  abbrev as_seen : Seen → Seen
-  as_seen s = seen_whole wholes s.composite
-
   -- the first reads are made, and the others are as they were
   pub record SeenTo (at : ℕ) (old new : List Seen) : Type 0 where
     pub many : length new ≡ length old
     pub made : take at new ≡ map (seen_whole wholes) (asked_in (take at old))
     pub left : drop at new ≡ drop at old
-
-  pub seen_none : (old : List Seen) → SeenTo 0 old old
-  seen_none old = record { many = refl; made = refl; left = refl }
 
   pub seen_next : (at : ℕ) (old new : List Seen) (d : Seen) → SeenTo at old new
       → get_or new at d ≡ get_or old at d
@@ -105,21 +85,6 @@ module _ (k : ℕ) (names : List ℕ) (old new : BoardSeat) (covers : Covers (k 
       let a = covers k in let b = sum_by-cons (λ n. if n == k then 1 else 0) k names in
       let c : ◌≡◌ {A = ℕ} (if k == k then 1 else 0) 1 = ap (λ (t : Bool). if t then 1 else 0) (eq-eqb k k refl) in
       omega (arith, a, b, c)
-
-  pub covers_less : Covers names (view_of new)
-  covers_less j =
-      let e = ap (counts_of j) is in let a = covers j in
-      let b = sum_by-cons (λ n. if n == j then 1 else 0) k names in
-      dite (ℕ_discrete j k)
-      (λ same. (let c : ◌≡◌ {A = ℕ} (if k == j then 1 else 0) 1 =
-      ap (λ (t : Bool). if t then 1 else 0) (eq-eqb k j (sym same)) in
-      let d = subst (λ (n : ℕ). counts_of n (released k (view_of old)) ≡ counts_of n (view_of old) - 1) (sym same)
-      (released_own k (view_of old) counted) in
-      omega (arith, e, a, b, c, d)))
-      (λ ne. (let d = released_other k (view_of old) counted j ne in omega (arith, e, a, b, d)))
-
-  pub spent_less : spent_by new ≡ spent_by old
-  spent_less = ap spent is ∙ spent_released k (view_of old) counted
 
 pub first_counted : (k : ℕ) (names : List ℕ) (v : BoardView) → Covers (k ∷ names) v → Counts k v
 first_counted k names v covers =

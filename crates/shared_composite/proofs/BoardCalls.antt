@@ -20,7 +20,7 @@ use Rattle.shared_composite.specs.declared.home.Home.{Home}
 use Rattle.shared_composite.specs.declared.home.Origin.{Origin}
 use Rattle.shared_composite.specs.Cores.{IsCore, IsKept, turns_of}
 use Rattle.shared_composite.specs.Homes.{CoreStands, HomeStands, AreBoxed, core_in_slot, cores_in, core_of, home_turns}
-use Rattle.shared_composite.specs.Boards.{origin_of, IsPoolOf, IsAtHome, InSection, AreCores, AreLeft, IsMadeOf, parts_of, parts_in, core_in}
+use Rattle.shared_composite.specs.Boards.{origin_of, IsPoolOf, IsAtHome, InSection, AreCores, AreLeft, IsMadeOf, parts_in, core_in}
 use Rattle.shared_composite.proofs.CoreLaws.{kept_on, kept_self}
 use Rattle.shared_composite.proofs.Boxes.{place_at, places_are, box_at, boxed_cores, boxed_length}
 use Rattle.std.proofs.lemmas.List.{length-map}
@@ -77,18 +77,6 @@ module _ (board : Board) (k : ℕ) (old new : TableSeat Home) (section : Section
 
   pub before_is : IsAtHome board k (core_of section)
   before_is = home_is
-
-  pub section_core : (pool : SharedPool) → IsPoolOf board pool → IsCore pool (core_of section)
-  section_core pool is = of_pool (origin_of board) pool k (core_of section) is home_is
-
-  pub section_turns : 0 < (table.view_of old).turns → 125 ≤ turns_of (core_of section)
-  section_turns turn =
-      let t : ℕ = (table.view_of old).turns in let n : ℕ = got.turns in let m : ℕ = turns_of (core_of section) in
-      let a' : t ≤ n = got.own in let b' : 25 * n + 100 ≤ m = got.home.reserved in let turn' : 0 < t = turn in
-      let goal : 125 ≤ m = omega (arith, a', b', turn') in goal
-
-  pub section_parts : parts_of board k ≡ (core_of section).parts
-  section_parts = parts_are (origin_of board) k (core_of section) home_is
 
   pub after_is : (pool : SharedPool) → IsPoolOf board pool → (after : Core) → IsCore pool after
       → IsKept (core_of section) after → IsAtHome board k after

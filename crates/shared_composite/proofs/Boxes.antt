@@ -1,21 +1,10 @@
 -- Cores in boxes, in the slots of a board: in order, and as home values.
-use Rattle.std.proofs.Common.{◌≡◌, ℕ, zero, suc, ◌<◌, List, [], ◌∷◌, ◌++◌, length, map, reverse, sym, refl, ap, ◌∙◌, subst, arith, append_assoc}
+use Rattle.std.proofs.Common.{◌≡◌, ℕ, zero, suc, ◌<◌, List, [], ◌∷◌, length, map, sym, refl, ap, ◌∙◌, subst, arith}
 use Rattle.std.specs.Prelude.{Option, Some, None, All, filter_map, slice_get, box_value}
-use Rattle.std.proofs.lemmas.List.{reverse-append, map-append}
 use Rattle.std.proofs.lemmas.List.Elements.{All-head, All-tail}
 use Rattle.shared_composite.specs.declared.cores.Core.{Core}
 use Rattle.shared_composite.specs.declared.home.Home.{Home}
 use Rattle.shared_composite.specs.Homes.{core_in_slot, cores_in}
-
--- the last slot is the first of them in reverse
-pub turn_some : (ws xs : List (Option Home)) (home : Home) → ws ≡ xs ++ Some home ∷ []
-    → cores_in (reverse ws) ≡ box_value home.core ∷ cores_in (reverse xs)
-turn_some ws xs home e =
-    ap (λ (l : List (Option Home)). cores_in (reverse l)) e ∙ ap cores_in (reverse-append xs (Some home ∷ []))
-
-pub turn_none : (ws xs : List (Option Home)) → ws ≡ xs ++ None ∷ [] → cores_in (reverse ws) ≡ cores_in (reverse xs)
-turn_none ws xs e =
-    ap (λ (l : List (Option Home)). cores_in (reverse l)) e ∙ ap cores_in (reverse-append xs (None ∷ []))
 
 -- the places of slots
 pub places_are : (slots : List (Option Home))
@@ -96,35 +85,3 @@ boxed_cores (c ∷ cs) (Some x ∷ ys) e =
     let t : map core_in_slot ys ≡ map Some cs = cc e in λ i. g i ∷ boxed_cores cs ys t i
 
 -- ---- One core out of its slot, and one into it.
-
-pub out_of_slot : (cores xs all : List Core) (ws ys : List (Option Home)) (home : Home) → ws ≡ ys ++ Some home ∷ []
-    → xs ≡ cores ++ box_value home.core ∷ [] → cores ++ cores_in (reverse ws) ≡ all
-    → xs ++ cores_in (reverse ys) ≡ all
-out_of_slot cores xs all ws ys home e f g =
-    ap (λ (l : List Core). l ++ cores_in (reverse ys)) f
-    ∙ append_assoc cores (box_value home.core ∷ []) (cores_in (reverse ys))
-    ∙ (ap (λ (l : List Core). cores ++ l) (sym (turn_some ws ys home e)) ∙ g)
-
-pub past_slot : (cores all : List Core) (ws ys : List (Option Home)) → ws ≡ ys ++ None ∷ []
-    → cores ++ cores_in (reverse ws) ≡ all → cores ++ cores_in (reverse ys) ≡ all
-past_slot cores all ws ys e g = ap (λ (l : List Core). cores ++ l) (sym (turn_none ws ys e)) ∙ g
-
-pub into_slot : (cores xs all : List Core) (ws ys : List (Option Home)) (home : Home)
-    → cores ≡ xs ++ box_value home.core ∷ [] → ys ≡ ws ++ Some home ∷ [] → cores ++ cores_in (reverse ws) ≡ all
-    → xs ++ cores_in (reverse ys) ≡ all
-into_slot cores xs all ws ys home e f g =
-    ap (λ (l : List Core). xs ++ l) (turn_some ys ws home f)
-    ∙ (sym (append_assoc xs (box_value home.core ∷ []) (cores_in (reverse ws)))
-    ∙ (ap (λ (l : List Core). l ++ cores_in (reverse ws)) (sym e) ∙ g))
-
-pub into_place : (cores xs : List Core) (all : List (Option Core)) (ws ys : List (Option Home)) (home : Home)
-    → cores ≡ xs ++ box_value home.core ∷ [] → ys ≡ ws ++ Some home ∷ []
-    → map Some cores ++ map core_in_slot (reverse ws) ≡ all
-    → map Some xs ++ map core_in_slot (reverse ys) ≡ all
-into_place cores xs all ws ys home e f g =
-    ap (λ (l : List (Option Home)). map Some xs ++ map core_in_slot (reverse l)) f
-    ∙ ap (λ (l : List (Option Home)). map Some xs ++ map core_in_slot l) (reverse-append ws (Some home ∷ []))
-    ∙ (sym (append_assoc (map Some xs) (Some (box_value home.core) ∷ []) (map core_in_slot (reverse ws)))
-    ∙ (ap (λ (l : List (Option Core)). l ++ map core_in_slot (reverse ws))
-    (sym (map-append Some xs (box_value home.core ∷ [])))
-    ∙ (ap (λ (l : List Core). map Some l ++ map core_in_slot (reverse ws)) (sym e) ∙ g)))

@@ -41,13 +41,6 @@ module _ (pool : SharedPool) where
     ap (λ (bytes : List ℕ). bytes ++ ys) first.7 ∙ append_assoc first.2 first.3 ys,
   )
 
-  -- nothing is got of a part that is empty, and any other is got
-  pub got_nothing : (s : PoolSeat) (q : Part) (bytes : List ℕ) → q.len ≡ 0 → length bytes ≡ q.len
-      → Gets pool (filled (q ∷ [])) s s bytes
-  got_nothing s q bytes none long =
-      subst (λ (ps : List Part). Gets pool ps s s bytes) (sym (filled_none q (ap (λ (n : ℕ). n == 0) none)))
-      (refl, no_bytes bytes (long ∙ none))
-
   pub got_part : (old new : PoolSeat) (q : Part) (number : ℕ) (bytes : List ℕ) → (q.len ≡ 0 → ⊥)
       → length bytes ≡ q.len
       → IsNoted pool old new (Root q.root.place) number (access q.root (Did.Get q.offset bytes))

@@ -1,5 +1,5 @@
 -- How a range of a core's components is read, one component after another.
-use Rattle.std.proofs.Common.{◌≡◌, ℕ, suc, ◌+◌, ◌-◌, ◌<◌, ◌≤◌, List, [], ◌∷◌, ◌++◌, length, take, drop, Bool, true, false, refl, sym, ap, ◌∙◌, subst, arith, append_assoc, append-nil, length-append, ne_eqb}
+use Rattle.std.proofs.Common.{◌≡◌, ℕ, suc, ◌+◌, ◌-◌, ◌<◌, ◌≤◌, List, [], ◌∷◌, ◌++◌, length, take, drop, Bool, true, false, refl, sym, ap, ◌∙◌, subst, arith, append_assoc, length-append, ne_eqb}
 use Rattle.std.specs.Prelude.{◌==◌, not, min, Contains, Some, slice_get}
 use Rattle.std.proofs.lemmas.List.{drop_all, drop-drop, length-drop, take-append-drop}
 use Rattle.std.proofs.lemmas.List.Elements.{filter-append}
@@ -19,9 +19,9 @@ use Rattle.shared_pool.specs.Seats.{IsPoolSeat, IsNoted, FoundBusy}
 use Rattle.shared_pool.specs.SeatViews.{view_of, SameSeat}
 use Rattle.shared_composite.specs.declared.cores.Core.{Core}
 use Rattle.shared_composite.specs.Cores.{IsCore, IsKept, roots_of, turns_of}
-use Rattle.shared_composite.specs.Reading.{Gets, HasRead, FoundHeldPart}
-use Rattle.shared_composite.proofs.CoreLaws.{kept_self, kept_on}
-use Rattle.shared_composite.proofs.Gets.{gets_none, gets_on, filled_none, filled_one}
+use Rattle.shared_composite.specs.Reading.{Gets, FoundHeldPart}
+use Rattle.shared_composite.proofs.CoreLaws.{kept_on}
+use Rattle.shared_composite.proofs.Gets.{gets_on, filled_none, filled_one}
 use Rattle.shared_composite.proofs.GetSteps.{with_seat, got_core, got_kept, got_turns, still_core, still_kept, still_turns}
 
 -- ---- A core behind the get of a part.
@@ -85,23 +85,6 @@ pub record IsReadTo (pool : SharedPool) (old now : Core) (start : ℕ) (unfilled
   pub long : length filling ≡ length unfilled
   pub there : skip + (length unfilled - done) ≤ size_of (drop k old.parts)
 
-pub read_none : (pool : SharedPool) (c : Core) (start : ℕ) (unfilled : List ℕ) → IsCore pool c
-    → start + length unfilled ≤ size_of c.parts → IsReadTo pool c c start unfilled unfilled start 0 0
-read_none pool c start unfilled core there = record {
-  core = core;
-  kept = kept_self c;
-  turns = omega arith;
-  before = [];
-  bytes = [];
-  split = ap (ranges c.parts start) (omega arith);
-  got = gets_none pool c.seat;
-  len = refl;
-  most = omega arith;
-  partly = refl;
-  long = refl;
-  there = (let a = there in omega (arith, a));
-}
-
 module _ (pool : SharedPool) (old now : Core) (start : ℕ) (unfilled filling : List ℕ) (skip done k : ℕ)
     (far : IsReadTo pool old now start unfilled filling skip done k) where
   abbrev n : ℕ
@@ -115,20 +98,6 @@ module _ (pool : SharedPool) (old now : Core) (start : ℕ) (unfilled filling : 
     nothing_left : length unfilled ≤ done
     nothing_left =
         let a = far.there in let b = ap (λ (ps : List Part). size_of ps) none_left in omega (arith, a, b)
-
-    pub all_filled : filling ≡ far.bytes
-    all_filled =
-        far.partly ∙ ap (λ (xs : List ℕ). far.bytes ++ xs) (drop_all done unfilled nothing_left)
-        ∙ append-nil far.bytes
-
-    pub all_read : HasRead pool old now start filling
-    all_read =
-        let parts : far.before ≡ ranges old.parts start (length filling) =
-        sym (append-nil far.before)
-        ∙ sym (ap (λ (ps : List Part). far.before ++ ranges ps skip n) none_left)
-        ∙ sym far.split ∙ ap (ranges old.parts start) (sym far.long) in
-        subst (λ (x : List Part × List ℕ). Gets pool x.0 old.seat now.seat x.1)
-        (λ i. (parts i, sym all_filled i)) far.got
 
   -- the next component, of which s bytes are skipped and t are read
   module _ (p : Part) (there : slice_get old.parts k ≡ Some p) (s t : ℕ) (skipped : s ≡ min skip p.len)

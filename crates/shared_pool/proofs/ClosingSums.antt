@@ -98,10 +98,6 @@ pub nothing : (b : Bool) → 0 ≡ cond {A = ℕ} b 0 0
 nothing true = refl
 nothing false = refl
 
-both_false : (b : Bool) → (if b && false then 1 else 0) ≡ cond {A = ℕ} b 0 0
-both_false true = refl
-both_false false = refl
-
 both_true : (b : Bool) → (if b && true then 1 else 0) ≡ cond {A = ℕ} b 1 0
 both_true true = refl
 both_true false = refl

@@ -50,9 +50,6 @@ stands_there s lane p g c (Busy b) st lt = absurd (omega (arith, lt))
 module _ {H : Type 0} (stands : List ℕ → Setting → List Noted → H → Type 0) (l : Layout) (v : SeatView)
     (homes : List (Option H)) (words : List ℕ)
     (closed : IsClosed stands l v homes words) where
-  abbrev one_view : (Entry → ℕ) → ℕ
-  one_view f = sum_by (weigh f) (v ∷ [])
-
   pub one_is : (f : Entry → ℕ) → sum_by (weigh f) (v ∷ []) ≡ weigh f v
   one_is f = let a = sum_by-cons (weigh f) v [] in let z : sum_by (weigh f) [] ≡ 0 = refl in omega (arith, a, z)
 

@@ -1,34 +1,31 @@
 -- What a call leaves in a seat's hands, where its note moves nothing of that kind, and what it costs.
 use Rattle.std.proofs.Common.{◌≡◌, ℕ, ◌+◌, ◌-◌, ◌≤◌, List, [], ◌∷◌, ◌++◌, Bool, true, false, refl, sym, ap, ◌∙◌, subst, arith}
-use Rattle.std.specs.Prelude.{Option, Some, None, IfSome, unwrap_or, if◌then◌else◌}
-use Rattle.step_law.specs.Settings.{Setting}
+use Rattle.std.specs.Prelude.{Option, Some, None, unwrap_or, if◌then◌else◌}
 use Rattle.pool_law.specs.declared.id.RootId.{RootId}
 use Rattle.pool_law.specs.declared.id.Region.{Region}
 use Rattle.pool_law.specs.declared.id.RegionId.{RegionId}
 use Rattle.pool_law.specs.declared.note.Did.{Did as DidWhat}
-use Rattle.pool_law.specs.declared.note.Held.{Held}
 use Rattle.pool_law.specs.declared.note.Noted.{Noted}
 use Rattle.pool_law.specs.declared.note.Object.{Object}
 use Rattle.pool_law.specs.declared.note.Object.TheVariants.{Cache, Root}
 use Rattle.pool_law.specs.declared.note.RefDid.{RefDid}
 use Rattle.pool_law.specs.Kinds.{Stays, passing}
 use Rattle.pool_law.specs.Naming.{noted_by}
-use Rattle.pool_law.specs.Places.{IsInPlace}
 use Rattle.pool_law.specs.Same.{same_object}
-use Rattle.history_laws.specs.NoteCounts.{did_home, did_birth, did_post_of, arena_out, arena_in, cache_out, cache_in, place_out, place_in, is_taking, uses_in}
+use Rattle.history_laws.specs.NoteCounts.{arena_out, arena_in, cache_out, cache_in, place_out, place_in}
 use Rattle.handle_bin.specs.Bins.{HandleValue}
 use Rattle.pool_table.specs.declared.views.Entry.{Entry}
 use Rattle.pool_table.specs.declared.views.Entry.TheVariants.{At, Ref, Busy}
 use Rattle.pool_table.specs.declared.views.SeatView.{SeatView}
 use Rattle.shared_pool.specs.declared.seat.PoolSeat.{PoolSeat}
 use Rattle.pool_table.specs.Counts.{weigh, on_place, on_this, ref_born, ref_vacated, ref_gain, ref_loss, fetches, posts, with_ref, HasCount}
-use Rattle.pool_table.specs.Hands.{InHand, NoneWaits, at_in, at_out, at_birth, from_arena, to_arena, from_cache, to_cache, from_place, to_place}
+use Rattle.pool_table.specs.Hands.{at_in, at_out, at_birth}
 use Rattle.shared_pool.specs.SeatViews.{view_of, HasView}
 use Rattle.pool_table.specs.Letters.{sent_on}
 use Rattle.pool_table.specs.Views.{with_entry}
 use Rattle.pool_table.proofs.Weights.{weigh_entry}
 use Rattle.shared_pool.specs.declared.pool.SharedPool.{SharedPool}
-use Rattle.shared_pool.specs.Holding.{HoldsHandle, HoldsRegion}
+use Rattle.shared_pool.specs.Holding.{HoldsHandle}
 use Rattle.shared_pool.specs.CacheAnswers.{was_put}
 use Rattle.pool_arena.specs.Standing.{taken_or_full}
 use Rattle.shared_pool.specs.Notes.{popped, hit}
@@ -40,7 +37,7 @@ use Rattle.shared_pool.specs.declared.went.Put.{Put}
 use Rattle.shared_pool.specs.declared.went.Put.TheVariants.{Kept, Back}
 use Rattle.shared_pool.specs.RootNotes.{IsNotedWith}
 use Rattle.shared_pool.specs.SeatLanes.{lane_of}
-use Rattle.shared_pool.specs.Seats.{IsNoted, FoundBusy}
+use Rattle.shared_pool.specs.Seats.{IsNoted}
 use Rattle.shared_pool.specs.Spending.{Spends, PostsNothing}
 use Rattle.shared_pool.proofs.SeatEnds.{IsQuiet, letters_quiet, quiet_ref, quiet_stays}
 
@@ -151,16 +148,6 @@ nothing_both old mid new x y =
           ∙ x.posted a b;
     }
 
--- a call that found another seat costs nothing
-pub held_free : (pool : SharedPool) (o : Object) (mark : Bool) (old new : PoolSeat) (held : Held)
-    → FoundBusy pool o mark old new held → Spends 0 0 old new
-held_free pool o true old new held found =
-    spends_view 0 0 old new (with_entry (view_of old) (Busy held) (view_of old).turns) (ap (λ m. m.0) found.marked)
-    (omega arith) (omega arith)
-    (no_quota_more (lane_of old) (view_of old).own.notes (Busy held) (λ lane class. refl))
-held_free pool o false old new held found =
-    spends_view 0 0 old new (view_of old) (ap (λ m. m.0) found.marked) (omega arith) (omega arith) (λ none. none)
-
 -- ---- A seat whose own part got one entry more.
 
 module _ (pool : SharedPool) (old new : PoolSeat) (e : Entry) (turns : ℕ)
@@ -187,28 +174,6 @@ module _ (pool : SharedPool) (old new : PoolSeat) (e : Entry) (turns : ℕ)
       more (posts r) in
       omega (arith, a, b, c, d, has, off, post)
 
-pub held_handle : (pool : SharedPool) (o : Object) (mark : Bool) (old new : PoolSeat) (held : Held)
-    (h : HandleValue) → FoundBusy pool o mark old new held → HoldsHandle pool old h → HoldsHandle pool new h
-held_handle pool o true old new held h found holds =
-    entry_handle pool old new (Busy held) (view_of old).turns (ap (λ m. m.0) found.marked) h (λ f. refl) refl refl
-    holds
-held_handle pool o false old new held h found holds =
-    let same = sym (ap (λ m. m.0) found.marked) in
-    record {
-      hand = subst (λ (v : SeatView). InHand h.place v) same holds.hand;
-      waits =
-          subst (λ (v : SeatView). NoneWaits h.place v) same holds.waits;
-      lane = holds.lane;
-      place = holds.place;
-    }
-
-pub held_count : (pool : SharedPool) (o : Object) (mark : Bool) (old new : PoolSeat) (held : Held) (r : RootId)
-    → FoundBusy pool o mark old new held → HasCount r (view_of old) → HasCount r (view_of new)
-held_count pool o true old new held r found has =
-    entry_count pool old new (Busy held) (view_of old).turns (ap (λ m. m.0) found.marked) r refl refl has
-held_count pool o false old new held r found has =
-    subst (λ (v : SeatView). HasCount r v) (sym (ap (λ m. m.0) found.marked)) has
-
 module _ (pool : SharedPool) (old new : PoolSeat) (o : Object) (number : ℕ) (n : Noted)
     (noted : IsNoted pool old new o number n) where
   abbrev v : SeatView
@@ -232,13 +197,6 @@ module _ (pool : SharedPool) (old new : PoolSeat) (o : Object) (number : ℕ) (n
       nothing_view old new (with_entry v e (v.turns - 1)) view refl refl
       (λ a b. unposted a b v.own.notes e (quiet_stays o number (noted_by v.own.number n) other))
 
-  pub keeps_handle : (h : HandleValue) → did_home h.place n.did ≡ 0 → did_birth h.place n.did ≡ 0
-      → HoldsHandle pool old h → HoldsHandle pool new h
-  keeps_handle h home birth = entry_handle pool old new e (v.turns - 1) view h (λ f. refl) home birth
-
-  pub keeps_count : (r : RootId) → did_post_of r n.did ≡ 0 → HasCount r v → HasCount r (view_of new)
-  keeps_count r post = entry_count pool old new e (v.turns - 1) view r refl post
-
   -- the note moves no region
   pub record MovesNoRegion : Type 0 where
     pub arena_out : (f : RegionId → ℕ) → arena_out f n.did ≡ 0
@@ -247,36 +205,6 @@ module _ (pool : SharedPool) (old new : PoolSeat) (o : Object) (number : ℕ) (n
     pub cache_in : (f : RegionId → ℕ) → cache_in f n.did ≡ 0
     pub place_out : (f : RegionId → ℕ) → place_out f (noted_by v.own.number n) ≡ 0
     pub place_in : (f : RegionId → ℕ) → place_in f n.did ≡ 0
-
-  pub keeps_region : (r : Region) → MovesNoRegion → HoldsRegion pool old r → HoldsRegion pool new r
-  keeps_region r none holds =
-      record {
-        hand = record {
-          taking =
-              (let f = is_taking r.id in let i = holds.hand.taking in let a =
-              same (from_arena f) (none.arena_out f) in let b =
-              same (to_arena f) (none.arena_in f) in let c =
-              same (from_cache f) (none.cache_out f) in let d = same (to_cache f) (none.cache_in f) in
-              let g = same (from_place f) (none.place_out f) in let h = same (to_place f) (none.place_in f) in
-              omega (arith, i, a, b, c, d, g, h));
-          uses =
-              (let f = uses_in r.id in let i = holds.hand.uses in let a = same (from_arena f) (none.arena_out f) in
-              let b = same (to_arena f) (none.arena_in f) in let c = same (from_cache f) (none.cache_out f) in
-              let d = same (to_cache f) (none.cache_in f) in
-              let g = same (from_place f) (none.place_out f) in let h = same (to_place f) (none.place_in f) in let k =
-              same (to_place (is_taking r.id)) (none.place_in (is_taking r.id)) in
-              omega (arith, i, a, b, c, d, g, h, k));
-        };
-        here =
-            subst (λ (x : Option Setting). IfSome x (λ t. IsInPlace t.grounds r.id.place r.piece))
-            (sym (ap (λ (w : SeatView). w.setting) view)) holds.here;
-        owner = holds.owner;
-        class = holds.class;
-        len = holds.len;
-      }
-    where
-      same : (f : Entry → ℕ) → f e ≡ 0 → weigh f (view_of new) ≡ weigh f v
-      same f z = let a = more pool old new e (v.turns - 1) view f in omega (arith, a, z)
 
 -- a step on a root's word costs the moves that it costs
 pub ref_costs : (old new : PoolSeat) (root : RootId) (step : RefDid) (moves spent : ℕ)

@@ -1,5 +1,5 @@
 -- A seat that bore a root and posted it to nobody: that it stays so, and what it reads.
-use Rattle.std.proofs.Common.{◌≡◌, ◌≢◌, ⊎_elim, ℕ, ◌+◌, ◌-◌, ◌<◌, Bool, true, false, cond, List, [], ◌∷◌, ◌++◌, length, sym, ap, ◌∙◌, subst, refl, arith, eqb-true}
+use Rattle.std.proofs.Common.{◌≡◌, ◌≢◌, ⊎_elim, ℕ, ◌+◌, ◌-◌, Bool, true, false, cond, List, [], ◌∷◌, ◌++◌, length, sym, ap, ◌∙◌, subst, refl, arith, eqb-true}
 use Rattle.std.specs.Prelude.{◌==◌, ◌&&◌, nat_le, if◌then◌else◌, Option, Some, None, IfSome, option_map, sum_by}
 use Rattle.std.proofs.lemmas.List.Sums.{sum_by_push, sum_by-le-sum_by, fold_push}
 use Rattle.step_law.specs.declared.Told.{Ghosts}
@@ -30,7 +30,6 @@ use Rattle.history_laws.proofs.Roots.{its_birth}
 use Rattle.pool_table.specs.declared.views.Entry.{Entry}
 use Rattle.pool_table.specs.declared.views.Entry.TheVariants.{At, Ref}
 use Rattle.pool_table.specs.declared.views.Layout.{Layout}
-use Rattle.pool_table.specs.declared.views.Part.{Part}
 use Rattle.pool_table.specs.declared.views.SeatView.{SeatView}
 use Rattle.pool_table.specs.declared.table.PoolSeat.{PoolSeat as TableSeat}
 use Rattle.pool_table.specs.declared.table.Section.{Section}
@@ -63,14 +62,6 @@ lone_ref r v q d m lone =
     let a = sum_by_push (births r) v.own.notes (Ref q d) in let b = sum_by_push (posts r) v.own.notes (Ref q d) in
     let c = lone.born in let k = lone.kept in let z : posts r (Ref q d) ≡ 0 = refl in
     record { born = omega (arith, a, c); kept = omega (arith, b, k, z) }
-
--- a view with the same own part
-pub lone_own : (r : RootId) (v w : SeatView) → w.own ≡ v.own → IsLone r v → IsLone r w
-lone_own r v w own lone = record {
-  born = subst (λ (q : Part). 0 < sum_by (births r) q.notes) (sym own) lone.born;
-  kept =
-      subst (λ (q : Part). sum_by (posts r) q.notes ≡ 0) (sym own) lone.kept;
-}
 
 -- a parcel of another root, or of none
 pub other_posted : (r : RootId) (parcel : Parcel) → IfSome parcel.view (λ w. w.root ≢ r)

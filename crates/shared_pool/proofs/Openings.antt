@@ -17,9 +17,6 @@ pushed_at [] y x (suc k) P e all last = absurd (cc e)
 pushed_at (z ∷ zs) y x zero P e all last = all 0 x e
 pushed_at (z ∷ zs) y x (suc k) P e all last = pushed_at zs y x k (λ j. P (suc j)) e (λ j. all (suc j)) last
 
-pub adds_none : (P : ℕ → Home → Type 0) (xs : List Home) → Adds P 0 xs xs
-adds_none P xs = record { more = []; is = sym (append-nil xs); many = refl; each = λ k x e. absurd (cc e) }
-
 pub adds_push : (P : ℕ → Home → Type 0) (n : ℕ) (old mid new : List Home) (x : Home) → Adds P n old mid → P n x
     → new ≡ mid ++ x ∷ [] → Adds P (n + 1) old new
 adds_push P n old mid new x a here is =

@@ -1,16 +1,16 @@
 -- How the lanes of a trace go on.
-use Rattle.std.proofs.Common.{ℕ, ◌+◌, ◌-◌, ◌<◌, ◌≤◌, ◌≡◌, zero, suc, List, [], ◌∷◌, ◌++◌, refl, ap, length, take, drop, get_or, arith, ◌∙◌, sym, min, slice_index, Some, true, false, Bool, drop-cons, add-one, append_assoc, length-append, Vec, Global}
+use Rattle.std.proofs.Common.{ℕ, ◌+◌, ◌-◌, ◌<◌, ◌≤◌, ◌≡◌, zero, suc, List, [], ◌∷◌, ◌++◌, refl, ap, length, take, get_or, arith, ◌∙◌, sym, min, slice_index, true, false, Bool, length-append, Vec, Global}
 use Rattle.std.specs.Prelude.{if◌then◌else◌, nat_lt}
 use Rattle.std.specs.List.{sum_by}
-use Rattle.std.proofs.lemmas.List.{get_or_push, get_or_append_left, take_min}
+use Rattle.std.proofs.lemmas.List.{get_or_push, get_or_append_left}
 use Rattle.std.proofs.lemmas.List.Sums.{sum_by_more}
 use Rattle.std.proofs.lemmas.List.Recursion.{is_sum_by}
 use Rattle.std.proofs.lemmas.Option.{slice_get-get_or}
 use Rattle.pool_law.specs.declared.command.Command.{Command}
-use Rattle.pool_law.specs.Stuck.{command_count, how_many, moved, moves, may_pass, next_of, first_waiting}
+use Rattle.pool_law.specs.Stuck.{command_count, how_many, moved, moves}
 use Rattle.pool_law.specs.Logs.{of_lane}
 use Rattle.trace_text.specs.declared.counts.Side.{Side}
-use Rattle.trace_text.specs.Counts.{AreCounts, AreRows, AreTables, meets}
+use Rattle.trace_text.specs.Counts.{AreRows}
 
 -- ---- Counts.
 
@@ -73,49 +73,11 @@ pub commands_at : (lanes : List (List Command)) (lane : ℕ) (d : List Command) 
     → of_lane lanes lane ≡ get_or lanes lane d
 commands_at lanes lane d h = rw (slice_get-get_or lanes lane d h) refl
 
-pub moved_step : (lanes : List (List Command)) (at front : List ℕ) (i : ℕ) (all : List ℕ) → i < length at
-    → all ≡ front ++ moved lanes at i (drop i at)
-    → all ≡ (front ++ (if may_pass lanes at i (next_of lanes at i) then slice_index at i + 1 else slice_index at i)
-    ∷ []) ++ moved lanes at (i + 1) (drop (i + 1) at)
-moved_step lanes at front i all h e =
-    let split : drop i at ≡ get_or at i 0 ∷ drop (i + 1) at = rw (add-one, drop-cons at i 0 h) refl in
-    e ∙ rw split (sym (append_assoc front _ _))
-
 pub moves_step : (lanes : List (List Command)) (n i : ℕ) (at rest : List ℕ) → i < n → moves (n - i) lanes at ≡ rest
     → moves (n - (i + 1)) lanes (moved lanes at 0 at) ≡ rest
 moves_step lanes n i at rest h e = let more : n - i ≡ suc (n - (i + 1)) = omega arith in rw (sym e, more) refl
 
-pub waiting_step : (lanes : List (List Command)) (at : List ℕ) (i : ℕ) (d : List Command) (e : ℕ) → i < length lanes
-    → i < length at → length (get_or lanes i d) ≤ get_or at i e
-    → first_waiting i (drop i lanes) (drop i at) ≡ first_waiting (i + 1) (drop (i + 1) lanes) (drop (i + 1) at)
-waiting_step lanes at i d e h k full =
-    let lanes_split : drop i lanes ≡ get_or lanes i d ∷ drop (i + 1) lanes = rw (add-one, drop-cons lanes i d h) refl in
-    let at_split : drop i at ≡ get_or at i e ∷ drop (i + 1) at = rw (add-one, drop-cons at i e k) refl in
-    let over : nat_lt (get_or at i e) (length (get_or lanes i d)) ≡ false = grind (arith, full) in
-    rw (lanes_split, at_split, over) refl
-
-pub waiting_found : (lanes : List (List Command)) (at : List ℕ) (i : ℕ) (d : List Command) (e : ℕ) → i < length lanes
-    → i < length at → get_or at i e < length (get_or lanes i d)
-    → first_waiting i (drop i lanes) (drop i at) ≡ Some (i, get_or at i e)
-waiting_found lanes at i d e h k left =
-    let lanes_split : drop i lanes ≡ get_or lanes i d ∷ drop (i + 1) lanes = rw (add-one, drop-cons lanes i d h) refl in
-    let at_split : drop i at ≡ get_or at i e ∷ drop (i + 1) at = rw (add-one, drop-cons at i e k) refl in
-    let under : nat_lt (get_or at i e) (length (get_or lanes i d)) ≡ true = grind (arith, left) in
-    rw (lanes_split, at_split, under) refl
-
 -- ---- What the tables tell.
-
-pub met_is : (side : Side) (lanes : List (List Command)) (tables : List (Vec (Vec ℕ Global) Global)) (lane other k : ℕ)
-    (d : List Command) (e : Vec (Vec ℕ Global) Global) (f : Vec ℕ Global)
-    → AreTables side lanes tables → lane < length lanes → other < length lanes
-    → slice_index (get_or (get_or tables lane e).items other f).items (min k (length (get_or lanes lane d)))
-    ≡ how_many (meets side other) (take k (of_lane lanes lane))
-met_is side lanes tables lane other k d e f known h i =
-    let same : of_lane lanes lane ≡ get_or lanes lane d = commands_at lanes lane d h in
-    let counts : AreCounts (meets side other) (of_lane lanes lane) (get_or (get_or tables lane e).items other f).items =
-    (known.each lane e h).each other f i in
-    let within : min k (length (get_or lanes lane d)) ≤ length (of_lane lanes lane) = grind (arith, same) in
-    counts.each (min k (length (get_or lanes lane d))) within ∙ rw (same, take_min k (get_or lanes lane d)) refl
 
 pub tables_more : (side : Side) (lanes : List (List Command)) (list new : List (Vec (Vec ℕ Global) Global))
     (rows : Vec (Vec ℕ Global) Global) (i : ℕ) (lane seen : List Command)

@@ -119,18 +119,6 @@ came_back R S firsts machines same all i m e =
     let at = all i m e in
     (at.0, at.1, (same at.0 m).1 at.2)
 
--- a machine that was stepped at its place
-pub came_set : {M : Type 0} (comes : M → M → Type 0) (firsts machines : List M) (i : ℕ) (old new : M)
-    → slice_get machines i ≡ Some old → ((first : M) → comes first old → comes first new)
-    → EachCame comes firsts machines → EachCame comes firsts (set machines i new)
-came_set {M} comes firsts machines i old new stood step all j x e =
-    ⊎_elim
-    (λ (h : (j ≡ i) × (new ≡ x)).
-    let at = all i old stood in
-    subst (λ (p : ℕ × M). BelongsAt comes firsts p.0 p.1) (λ k. (sym h.0 k, h.1 k)) (at.0, at.1, step at.0 at.2))
-    (λ before. all j x before)
-    (set_cases machines i new j x e)
-
 -- ---- Machines that have finished.
 
 -- the machines before a place had finished, and so has the one at it
