@@ -201,7 +201,7 @@ impl ChunkPlace {
         match self.chunk.give_element(piece, page, index) {
             Freed::Idle => true,
             Freed::Element => false,
-            Freed::Run => false,
+            Freed::Run => unreachable!(),
         }
     }
 

@@ -9,7 +9,7 @@ use Rattle.pool_arena.specs.Places.{PlaceState, state_of, runs_of, with_chunk, p
 use Rattle.pool_arena.specs.declared.place.ChunkPlace.TheInside.{Inside}
 use Rattle.pool_arena.proofs.PlaceLaws.{run-used, place-chunk, place-changed, place-held}
 use Rattle.pool_arena.proofs.place.ChunkPlace.give_element.Goals as goal
-use Rattle.pool_arena.proofs.place.ChunkPlace.give_element.Goals.{in-Idle, in-Element, in-Run}
+use Rattle.pool_arena.proofs.place.ChunkPlace.give_element.Goals.{in-Idle, in-Element}
 
 -- the element is out of the place's chunk
 given : (p : Inside) (v : PlaceState) (page index : ℕ) (piece : Segment) → place_in p ≡ v
@@ -29,6 +29,19 @@ invariant_of-self c =
     let out = given p v c.args.page c.args.index c.args.piece c.self.view_is c.requires in
     place-held _ (c.self.invariant.deed ∙ ap (λ (s : ChunkState). s.origin) (sym (c.give_element.ensures.chunk out)))
     (run-used p v c.args.page _ c.self.view_is c.requires.subpage.run)
+
+-- no element that comes back is told as a run
+no_run : (e : Elements) (k : ℕ) (f : Freed) → f ≡ freed_by e k → f ≡ Freed.Run → ⊥
+no_run e k f is run = by (is_idle (with_back e k)) refl
+  where
+    by : (idle : Bool) → is_idle (with_back e k) ≡ idle → ⊥
+    by true e' = absurd (cc (is ∙ ap (λ (x : Bool). if x then Freed.Idle else Freed.Element) e', run))
+    by false e' = absurd (cc (is ∙ ap (λ (x : Bool). if x then Freed.Idle else Freed.Element) e', run))
+
+pub unreachable-requires : goal.unreachable-requires
+unreachable-requires c =
+    let out = given c.self.inside c.args.self.now c.args.page c.args.index c.args.piece c.self.view_is c.requires in
+    no_run out.subpage.elements c.args.index c.give_element.result (c.give_element.ensures.freed out) c.in-Run.is
 
 -- an element of a subpage that is back leaves it idle, or with others out
 idle-or : (e : Elements) (k : ℕ) (f : Freed) (b : Bool) → f ≡ freed_by e k → (f ≡ Freed.Idle → b ≡ true)
@@ -54,7 +67,6 @@ module _ (c : goal.Joined-give_element) where
       elim c.match-give_element.branch [
         | in-Idle w ↦ idle (λ _. w.result-is) (λ h. absurd (cc (w.in-Idle.is, h)))
         | in-Element w ↦ idle (λ h. absurd (cc (w.in-Element.is, h))) (λ _. w.result-is)
-        | in-Run w ↦ idle (λ h. absurd (cc (w.in-Run.is, h))) (λ h. absurd (cc (w.in-Run.is, h)))
       ]
 
 pub returns-clause-idle : goal.returns-clause-idle
