@@ -7,8 +7,8 @@ use Rattle.board_table.specs.Views.{stake_of, entered, retained, released, ended
 use Rattle.board_table.specs.Sound.{WasFree, WasHeld, WasCounted}
 
 -- what a step tells: the step, what the seat had, the word that was found, what the seat has then
-abbrev pub Told : Type 0 → Type 1
-Told H = Step (Option H) → Me (Option H) BoardView → ℕ → Me (Option H) BoardView → Type 0
+abbrev pub StepRelation : Type 0 → Type 1
+StepRelation H = Step (Option H) → Me (Option H) BoardView → ℕ → Me (Option H) BoardView → Type 0
 
 module _ {H : Type 0} where
   -- the seat got into the section of composite k, which it counts or has the mark of: it knows how many
@@ -26,28 +26,28 @@ module _ {H : Type 0} where
     pub was_free : WasFree holds k number home me.0
 
   abbrev pub claims :
-      (State (Option H) BoardView → Type 0) → (H → ℕ → Type 0) → ℕ → Told H
+      (State (Option H) BoardView → Type 0) → (H → ℕ → Type 0) → ℕ → StepRelation H
   claims holds Fits k s me found after =
       (found % 2 ≡ 0 → GetsIn holds Fits k me found after)
       × (found % 2 ≡ 1 → (after ≡ me) × ((stake_of k me.0).marks ≡ 0)
       × WasHeld holds k (found / 2) me.0)
 
   -- a section ends, with the core at home again
-  abbrev pub dones : Told H
+  abbrev pub dones : StepRelation H
   dones s me found after =
       IfSome me.0.inside (λ (x : Inside).
       (found ≡ 2 * x.number + 1) × (after ≡ (done x.composite me.0, rest me.1)))
 
   -- and where it was taken
-  abbrev pub takes : Told H
+  abbrev pub takes : StepRelation H
   takes s me found after =
       IfSome me.0.inside (λ (x : Inside). after ≡ (took x.composite me.0, rest me.1))
 
-  abbrev pub retains : ℕ → Told H
+  abbrev pub retains : ℕ → StepRelation H
   retains k s me found after = after ≡ (retained k me.0, me.1)
 
   -- the release that found the count 1 ends the composite
-  abbrev pub releases : (State (Option H) BoardView → Type 0) → ℕ → Told H
+  abbrev pub releases : (State (Option H) BoardView → Type 0) → ℕ → StepRelation H
   releases holds k s me found after =
       WasCounted holds k found me.0
       × (found ≡ 1 → after ≡ (ended k me.0, me.1))

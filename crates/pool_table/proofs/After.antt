@@ -17,7 +17,7 @@ use Rattle.pool_table.specs.declared.views.Entry.TheVariants.{At}
 use Rattle.pool_table.specs.declared.views.SeatView.{SeatView}
 use Rattle.pool_table.specs.Views.{with_entry}
 use Rattle.pool_table.specs.Counts.{weigh, on_place, on_root, on_this, ref_born, ref_vacated, ref_gain, ref_loss, fetches, posts, gained_of, lost_of, HasCount}
-use Rattle.pool_table.specs.Hands.{at_in, at_out, grasped, laid, NoneWaits, InHand, at_birth, at_birth_of, at_birth_as, ends, Waits, HasEnded, IsOrderly, from_arena, to_arena, from_cache, to_cache, from_place, to_place, HasRegion, IsLaidDown}
+use Rattle.pool_table.specs.Hands.{at_in, at_out, weight_taken, weight_put_down, NoneWaits, InHand, at_birth, at_birth_of, at_birth_as, ends, Waits, HasEnded, IsOrderly, from_arena, to_arena, from_cache, to_cache, from_place, to_place, HasRegion, IsPutDown}
 use Rattle.pool_table.specs.Learned.{did_take_up}
 use Rattle.pool_table.proofs.Weights.{weigh_entry}
 use Rattle.pool_table.proofs.Holdings.{takes_up, lays, taking_key}
@@ -155,7 +155,7 @@ module _ (v : SeatView) (o : Object) (k : ℕ) (n : Noted) (t : ℕ) where
   -- a region that is given back or put into a cache is in hand no more
   laid_down : (r : RegionId) → lays (is_taking r) e ≡ 1 → takes_up (is_taking r) e ≡ 0 → takes_up (uses_in r) e ≡ 0
       → r.uses + to_place (is_taking r) e ≡ lays (uses_in r) e → HasRegion r v
-      → grasped (is_taking r) v ≤ laid (is_taking r) v + 1 → IsLaidDown r w
+      → weight_taken (is_taking r) v ≤ weight_put_down (is_taking r) v + 1 → IsPutDown r w
   laid_down r h1 h2 h3 h4 has once =
       let a = weigh_entry (to_arena (is_taking r)) v e t in let b = weigh_entry (to_cache (is_taking r)) v e t in
       let c = weigh_entry (to_place (is_taking r)) v e t in
@@ -173,7 +173,7 @@ module _ (v : SeatView) (o : Object) (k : ℕ) (n : Noted) (t : ℕ) where
       }
 
   -- a region that isn't in hand is of another taking than one that is
-  apart : (r z : RegionId) → IsLaidDown r v → HasRegion z v → same_taking r z ≡ false
+  apart : (r z : RegionId) → IsPutDown r v → HasRegion z v → same_taking r z ≡ false
   apart r z down has = by (same_taking r z) refl
     where
       by : (b : Bool) → same_taking r z ≡ b → b ≡ false
@@ -183,7 +183,7 @@ module _ (v : SeatView) (o : Object) (k : ℕ) (n : Noted) (t : ℕ) where
 
   -- the region that a root leaves that grows is in hand then
   pub after_growing : (c : ℕ) (r z : RegionId) → n.did ≡ Grow c (record z { uses = z.uses + 1 }) → n.region ≡ Some r
-      → HasRegion z v → IsLaidDown r v → HasRegion r w
+      → HasRegion z v → IsPutDown r v → HasRegion r w
   after_growing c r z is out has down =
       let x : RegionId = record z { uses = z.uses + 1 } in let other = apart r z down has in
       let own = its_own r in let o0 = own.0 in let o1 = own.1 in

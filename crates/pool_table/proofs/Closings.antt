@@ -33,7 +33,7 @@ use Rattle.pool_table.proofs.Sequence.{one_regroups}
 use Rattle.pool_table.proofs.Births.{born_regroups}
 use Rattle.pool_table.proofs.Exact.{one_born}
 use Rattle.pool_table.specs.Births.{IsBorn}
-use Rattle.pool_table.specs.Hands.{at_birth_as, from_arena, to_arena, from_cache, to_cache, from_place, to_place, grasped, laid, uses_come, uses_gone}
+use Rattle.pool_table.specs.Hands.{at_birth_as, from_arena, to_arena, from_cache, to_cache, from_place, to_place, weight_taken, weight_put_down, uses_come, uses_gone}
 use Rattle.history_laws.specs.NoteCounts.{is_taking, uses_in}
 use Rattle.pool_law.specs.declared.id.RegionId.{RegionId}
 use Rattle.pool_table.proofs.Ledgers.{sum_add}
@@ -121,15 +121,16 @@ module _ {H : Type 0} (stands : List ℕ → Setting → List Noted → H → Ty
   -- what the view has in hand is what all views have
   alone_sums : (s : St) (r : IsSound stands l s) (id : ℕ) (v : SeatView) → get_elem? s.views id ≡ some v
       → HasAllLanes l v →
-      ((q : RegionId) → sum_by (grasped (is_taking q)) (v ∷ []) ≡ sum_by (grasped (is_taking q)) s.views)
-      × ((q : RegionId) → sum_by (laid (is_taking q)) (v ∷ []) ≡ sum_by (laid (is_taking q)) s.views)
+      ((q : RegionId) → sum_by (weight_taken (is_taking q)) (v ∷ []) ≡ sum_by (weight_taken (is_taking q)) s.views)
+      × ((q : RegionId) → sum_by (weight_put_down (is_taking q)) (v ∷ [])
+      ≡ sum_by (weight_put_down (is_taking q)) s.views)
       × ((q : RegionId) → sum_by (uses_come q) (v ∷ []) ≡ sum_by (uses_come q) s.views)
       × ((q : RegionId) → sum_by (uses_gone q) (v ∷ []) ≡ sum_by (uses_gone q) s.views)
   alone_sums s r id v at all = (
     λ q. grasps (is_taking q),
     λ q. lays (is_taking q),
-    λ q. (let a = sum_add (grasped (uses_in q)) (weigh (to_place (is_taking q))) (v ∷ []) in let b =
-        sum_add (grasped (uses_in q)) (weigh (to_place (is_taking q))) s.views in
+    λ q. (let a = sum_add (weight_taken (uses_in q)) (weigh (to_place (is_taking q))) (v ∷ []) in let b =
+        sum_add (weight_taken (uses_in q)) (weigh (to_place (is_taking q))) s.views in
         let c = grasps (uses_in q) in let d = alone_weighs s r id v at all (to_place (is_taking q)) in
         omega (arith, a, b, c, d)),
     λ q. lays (uses_in q),
@@ -146,10 +147,10 @@ module _ {H : Type 0} (stands : List ℕ → Setting → List Noted → H → Ty
           alone_weighs s r id v at all h in
           omega (arith, a, b, c, d, x, y, z)
 
-      grasps : (w : RegionId → ℕ) → sum_by (grasped w) (v ∷ []) ≡ sum_by (grasped w) s.views
+      grasps : (w : RegionId → ℕ) → sum_by (weight_taken w) (v ∷ []) ≡ sum_by (weight_taken w) s.views
       grasps w = three (from_arena w) (from_cache w) (from_place w)
 
-      lays : (w : RegionId → ℕ) → sum_by (laid w) (v ∷ []) ≡ sum_by (laid w) s.views
+      lays : (w : RegionId → ℕ) → sum_by (weight_put_down w) (v ∷ []) ≡ sum_by (weight_put_down w) s.views
       lays w = three (to_arena w) (to_cache w) (to_place w)
 
   -- nothing lies between the slots

@@ -18,7 +18,7 @@ use Rattle.pool_table.specs.declared.views.SeatView.{SeatView}
 use Rattle.pool_table.specs.Views.{parts_of, with_entry}
 use Rattle.pool_table.specs.Counts.{weigh, on_this, fetches, posts, ref_gain, ref_loss, ref_ended, ref_vacated, HasCount, HasToken, CountsOne}
 use Rattle.pool_table.specs.Sound.{IsSound}
-use Rattle.pool_table.specs.Steps.{Told, counts_one}
+use Rattle.pool_table.specs.Steps.{StepRelation, counts_one}
 use Rattle.pool_table.proofs.AtPlace.{CountsAt}
 use Rattle.pool_table.proofs.Exact.{born_place, count_born, count_at, token_at, one_born}
 use Rattle.pool_table.proofs.WordChanges.{live_word}
@@ -76,7 +76,7 @@ module _ {H : Type 0} (stands : List ℕ → Setting → List Noted → H → Ty
   }
 
   -- so it is with the view that a step leaves
-  pub one_allowed : (slots id : ℕ) (me : Me (Option H) SeatView) (word : ℕ) (f : ℕ → ℕ) (told : Told H)
+  pub one_allowed : (slots id : ℕ) (me : Me (Option H) SeatView) (word : ℕ) (f : ℕ → ℕ) (told : StepRelation H)
       (st : Step (Option H)) → Allows (IsSound stands l) slots id me word f (told st me)
       → Allows (IsSound stands l) slots id me word f (counts_one told st me)
   one_allowed slots id me word f told st allowed s r wide at under =

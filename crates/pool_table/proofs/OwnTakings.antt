@@ -35,7 +35,7 @@ use Rattle.pool_table.specs.declared.views.Part.{Part}
 use Rattle.pool_table.specs.declared.views.SeatView.{SeatView}
 use Rattle.pool_table.specs.Views.{parts_of, is_lane, numbered}
 use Rattle.pool_table.specs.Counts.{weigh}
-use Rattle.pool_table.specs.Hands.{from_arena, to_arena, grasped, laid, uses_come, uses_gone}
+use Rattle.pool_table.specs.Hands.{from_arena, to_arena, weight_taken, weight_put_down, uses_come, uses_gone}
 use Rattle.pool_table.specs.Learned.{in_own, takes_of, gives_of, TellsCache}
 use Rattle.pool_table.specs.Sound.{IsSound, IsView, Stands, OnceBelow}
 use Rattle.pool_table.proofs.Partition.{sum_to_at}
@@ -232,7 +232,7 @@ module _ {H : Type 0} (stands : List ℕ → Setting → List Noted → H → Ty
   cache_each s r id m class v fits x at own after q is =
       let side = some_side stands l s r q in let sp = some_spread stands l s r in let f =
       (sums stands l s r q side.0 sp.0 sp.1 side.1 sp.2).held in
-      let pay = all_pay (laid (is_taking q)) (grasped (is_taking q)) (uses_gone q) (uses_come q) s.views
+      let pay = all_pay (weight_put_down (is_taking q)) (weight_taken (is_taking q)) (uses_gone q) (uses_come q) s.views
       (all_held stands l s r q) in
       let f0 = fits.0 in let f1 = fits.1 in let i : ℕ = m * 40 + class in let inside : i < l.shape.lanes * 40 =
       omega (arith, f0, f1) in

@@ -35,7 +35,7 @@ use Rattle.pool_law.specs.Kinds.{passing}
 use Rattle.pool_law.proofs.PatternLemmas.{same_taking-refl}
 use Rattle.pool_table.specs.Views.{parts_of, is_turn, took_turn, spent}
 use Rattle.pool_table.specs.Counts.{weigh}
-use Rattle.pool_table.specs.Hands.{from_arena, to_place, HasTaking, HasRegion, IsLaidDown}
+use Rattle.pool_table.specs.Hands.{from_arena, to_place, HasTaking, HasRegion, IsPutDown}
 use Rattle.pool_table.specs.Holders.{region_at}
 use Rattle.pool_table.specs.Learned.{did_take_up}
 use Rattle.pool_table.specs.Sound.{IsKnown, IsSound, Stands}
@@ -148,12 +148,12 @@ module _ {H : Type 0} (stands : List ℕ → Setting → List Noted → H → Ty
       (n : Noted) where
     from_arenas : (a : ℕ) (fits : IsObjectOf l.shape (Arena a))
         → IsHistory l.shape (Arena a) ((r.objects (Arena a) fits).history ++ n ∷ []) → 0 < arena_out (is_taking q) n.did
-        → IsLaidDown q v
+        → IsPutDown q v
     from_arenas a fits more lt = ⊎_elim
         (λ (z : arena_out (is_taking q) n.did + arena_in (is_taking q) n.did ≡ 0). absurd (omega (arith, z, lt)))
         (λ (e : Arena a ≡ Arena q.place.arena). let is : a ≡ q.place.arena = cc e in
         subst (λ (b : ℕ). (fits : IsObjectOf l.shape (Arena b))
-        → IsHistory l.shape (Arena b) ((r.objects (Arena b) fits).history ++ n ∷ []) → IsLaidDown q v) (sym is)
+        → IsHistory l.shape (Arena b) ((r.objects (Arena b) fits).history ++ n ∷ []) → IsPutDown q v) (sym is)
         (λ fits more. let h = (r.objects (Arena q.place.arena) fits).history in let k =
         (r.objects (Arena q.place.arena) fits).accepted in
         let x = arena_there l.shape q.place.arena h k in let out =
@@ -166,7 +166,7 @@ module _ {H : Type 0} (stands : List ℕ → Setting → List Noted → H → Ty
 
     -- a cache or a root place that has it
     from_holder : (sp : (caches : ℕ → CacheState) × (places : ℕ → RootPlace) × Spread stands l s caches places)
-        → 0 < cached stands l (is_taking q) sp.0 + placed stands l (is_taking q) sp.1 → IsLaidDown q v
+        → 0 < cached stands l (is_taking q) sp.0 + placed stands l (is_taking q) sp.1 → IsPutDown q v
     from_holder sp lt =
         let side = some_side stands l s r q in let f = sums stands l s r q side.0 sp.0 sp.1 side.1 sp.2 in
         let most = f.most in
@@ -174,7 +174,7 @@ module _ {H : Type 0} (stands : List ℕ → Setting → List Noted → H → Ty
 
     from_caches : (d c : ℕ) (fits : IsObjectOf l.shape (Cache d c))
         → IsHistory l.shape (Cache d c) ((r.objects (Cache d c) fits).history ++ n ∷ [])
-        → 0 < cache_out (is_taking q) n.did → IsLaidDown q v
+        → 0 < cache_out (is_taking q) n.did → IsPutDown q v
     from_caches d c fits more lt =
         let h = (r.objects (Cache d c) fits).history in let x =
         cache_there l.shape d c h (r.objects (Cache d c) fits).accepted in
@@ -187,7 +187,7 @@ module _ {H : Type 0} (stands : List ℕ → Setting → List Noted → H → Ty
 
     from_places : (p : ℕ) (fits : IsObjectOf l.shape (Root p))
         → IsHistory l.shape (Root p) ((r.objects (Root p) fits).history ++ n ∷ []) → 0 < place_out (is_taking q) n
-        → IsLaidDown q v
+        → IsPutDown q v
     from_places p fits more lt =
         let h = (r.objects (Root p) fits).history in let x =
         place_there l.shape p h (r.objects (Root p) fits).accepted in
@@ -199,7 +199,7 @@ module _ {H : Type 0} (stands : List ℕ → Setting → List Noted → H → Ty
         from_holder sp (omega (arith, low, a, b, le, lt))
 
     pub next_free : (o : Object) (fits : IsObjectOf l.shape o)
-        → IsHistory l.shape o ((r.objects o fits).history ++ n ∷ []) → 0 < did_take_up q n → IsLaidDown q v
+        → IsHistory l.shape o ((r.objects o fits).history ++ n ∷ []) → 0 < did_take_up q n → IsPutDown q v
     next_free o fits more lt =
         let st = regioned l.shape o (r.objects o fits).history n more q in
         dite (ℕ_discrete (arena_out (is_taking q) n.did) 0)
@@ -208,17 +208,17 @@ module _ {H : Type 0} (stands : List ℕ → Setting → List Noted → H → Ty
         (λ (z : place_out (is_taking q) n + place_in (is_taking q) n.did ≡ 0). absurd (omega (arith, z, lp)))
         (λ (e : (p : ℕ) × (o ≡ Root p)). subst
         (λ (o : Object). (fits : IsObjectOf l.shape o) → IsHistory l.shape o ((r.objects o fits).history ++ n ∷ [])
-        → IsLaidDown q v) (sym e.1) (λ fits more. from_places e.0 fits more lp) fits more)
+        → IsPutDown q v) (sym e.1) (λ fits more. from_places e.0 fits more lp) fits more)
         st.place)
         (λ nc. let lc : 0 < cache_out (is_taking q) n.did = omega (arith, nc) in ⊎_elim
         (λ (z : cache_out (is_taking q) n.did + cache_in (is_taking q) n.did ≡ 0). absurd (omega (arith, z, lc)))
         (λ (e : (d : ℕ) × (c : ℕ) × (o ≡ Cache d c)). subst
         (λ (o : Object). (fits : IsObjectOf l.shape o) → IsHistory l.shape o ((r.objects o fits).history ++ n ∷ [])
-        → IsLaidDown q v) (sym e.2) (λ fits more. from_caches e.0 e.1 fits more lc) fits more)
+        → IsPutDown q v) (sym e.2) (λ fits more. from_caches e.0 e.1 fits more lc) fits more)
         st.cache))
         (λ na. let la : 0 < arena_out (is_taking q) n.did = omega (arith, na) in ⊎_elim
         (λ (z : arena_out (is_taking q) n.did + arena_in (is_taking q) n.did ≡ 0). absurd (omega (arith, z, la)))
         (λ (e : o ≡ Arena q.place.arena). subst
         (λ (o : Object). (fits : IsObjectOf l.shape o) → IsHistory l.shape o ((r.objects o fits).history ++ n ∷ [])
-        → IsLaidDown q v) (sym e) (λ fits more. from_arenas q.place.arena fits more la) fits more)
+        → IsPutDown q v) (sym e) (λ fits more. from_arenas q.place.arena fits more la) fits more)
         st.arena)

@@ -26,7 +26,7 @@ use Rattle.pool_table.specs.declared.views.Layout.{Layout}
 use Rattle.pool_table.specs.declared.views.SeatView.{SeatView}
 use Rattle.pool_table.specs.Views.{noted_weight}
 use Rattle.pool_table.specs.Counts.{weigh}
-use Rattle.pool_table.specs.Hands.{from_arena, to_arena, from_cache, to_cache, from_place, to_place, grasped, laid, uses_come, uses_gone, HasTaking, IsLaidDown}
+use Rattle.pool_table.specs.Hands.{from_arena, to_arena, from_cache, to_cache, from_place, to_place, weight_taken, weight_put_down, uses_come, uses_gone, HasTaking, IsPutDown}
 use Rattle.pool_table.specs.Holders.{region_at, AreStates, IsInOneHold}
 use Rattle.pool_table.specs.Sound.{IsSound, IsView}
 use Rattle.pool_table.proofs.Partition.{sum_to_at, sum_to_none, chosen, in_views}
@@ -119,9 +119,9 @@ module _ {H : Type 0} (stands : List ℕ → Setting → List Noted → H → Ty
   -- the sums over all views
   pub record Sums (s : St) (q : RegionId) (out : ℕ) (caches : ℕ → CacheState) (places : ℕ → RootPlace) : Type 0 where
     pub most : out ≤ 1
-    pub held : sum_by (grasped (is_taking q)) s.views + (cached stands l (is_taking q) caches
+    pub held : sum_by (weight_taken (is_taking q)) s.views + (cached stands l (is_taking q) caches
         + placed stands l (is_taking q) places)
-        ≡ sum_by (laid (is_taking q)) s.views + out
+        ≡ sum_by (weight_put_down (is_taking q)) s.views + out
     pub uses : 0 < out → sum_by (uses_come q) s.views + (cached stands l (uses_in q) caches
         + placed stands l (uses_in q) places)
         ≡ sum_by (uses_gone q) s.views + sum_by (weigh (to_place (is_taking q))) s.views
@@ -129,13 +129,13 @@ module _ {H : Type 0} (stands : List ℕ → Setting → List Noted → H → Ty
   pub sums : (s : St) (r : IsSound stands l s) (q : RegionId) (out : ℕ) (caches : ℕ → CacheState)
       (places : ℕ → RootPlace) → Side s q out → Spread stands l s caches places → Sums s q out caches places
   sums s r q out caches places side spread =
-      let grasp : (w : RegionId → ℕ) → sum_by (grasped w) s.views
+      let grasp : (w : RegionId → ℕ) → sum_by (weight_taken w) s.views
       ≡ sum_by (weigh (from_arena w)) s.views
       + (sum_by (weigh (from_cache w)) s.views + sum_by (weigh (from_place w)) s.views) = (λ w.
       let a = sum_add (weigh (from_arena w)) (λ (v : SeatView). weigh (from_cache w) v + weigh (from_place w) v)
       s.views in let b = sum_add (weigh (from_cache w)) (weigh (from_place w)) s.views in
       omega (arith, a, b)) in
-      let lay : (w : RegionId → ℕ) → sum_by (laid w) s.views
+      let lay : (w : RegionId → ℕ) → sum_by (weight_put_down w) s.views
       ≡ sum_by (weigh (to_arena w)) s.views
       + (sum_by (weigh (to_cache w)) s.views + sum_by (weigh (to_place w)) s.views) = (λ w.
       let a = sum_add (weigh (to_arena w)) (λ (v : SeatView). weigh (to_cache w) v + weigh (to_place w) v) s.views in
@@ -167,7 +167,7 @@ module _ {H : Type 0} (stands : List ℕ → Setting → List Noted → H → Ty
       let p = through_places (is_taking q) (λ o z. z) (λ d z. z) in let pu =
       through_places (uses_in q) (option_light q) (born_light q) in
       let e = side.balance in let m = side.most in let un = side.unused in
-      let come = sum_add (grasped (uses_in q)) (weigh (to_place (is_taking q))) s.views in record {
+      let come = sum_add (weight_taken (uses_in q)) (weigh (to_place (is_taking q))) s.views in record {
         most = omega (arith, e, m);
         held = omega (arith, g, k, c, p, e);
         uses = λ lt. let kept = side.kept lt in omega (arith, gu, ku, cu, pu, un, come, kept);
@@ -175,10 +175,10 @@ module _ {H : Type 0} (stands : List ℕ → Setting → List Noted → H → Ty
 
   -- each view pays for what it lays down
   pub all_held : (s : St) (r : IsSound stands l s) (q : RegionId)
-      → All (Pays (laid (is_taking q)) (grasped (is_taking q)) (uses_gone q) (uses_come q)) s.views
+      → All (Pays (weight_put_down (is_taking q)) (weight_taken (is_taking q)) (uses_gone q) (uses_come q)) s.views
   all_held s r q =
       All-weaker (IsView l.shape r.setting)
-      (Pays (laid (is_taking q)) (grasped (is_taking q)) (uses_gone q) (uses_come q))
+      (Pays (weight_put_down (is_taking q)) (weight_taken (is_taking q)) (uses_gone q) (uses_come q))
       (λ v fine. let k = fine.roots.held q in record { least = k.holds; settled = k.emptied }) s.views r.views
 
   -- a taking in hand is out, is in no cache and at no root place, and has as many uses as births name it
@@ -190,8 +190,8 @@ module _ {H : Type 0} (stands : List ℕ → Setting → List Noted → H → Ty
       → get_elem? s.views id ≡ some v → Side s q out → HasTaking q v → InHandFact s q v out
   in_hand s r id v q out at side has =
       let sp = some_spread s r in let f = sums s r q out sp.0 sp.1 side sp.2 in
-      let all = all_held s r q in let a : SeatView → ℕ = laid (is_taking q) in let b : SeatView
-      → ℕ = grasped (is_taking q) in
+      let all = all_held s r q in let a : SeatView → ℕ = weight_put_down (is_taking q) in let b : SeatView
+      → ℕ = weight_taken (is_taking q) in
       let less = one_less a b (uses_gone q) (uses_come q) s.views id v all at has in let held = f.held in let most =
       f.most in
       let one : out ≡ 1 = omega (arith, less, held, most) in
@@ -212,21 +212,21 @@ module _ {H : Type 0} (stands : List ℕ → Setting → List Noted → H → Ty
 
   -- no view has a taking in hand twice
   pub in_hand_once : (s : St) (r : IsSound stands l s) (id : ℕ) (v : SeatView) → get_elem? s.views id ≡ some v
-      → (q : RegionId) → grasped (is_taking q) v ≤ laid (is_taking q) v + 1
+      → (q : RegionId) → weight_taken (is_taking q) v ≤ weight_put_down (is_taking q) v + 1
   in_hand_once s r id v at q =
       let side = some_side s r q in let sp = some_spread s r in let f = sums s r q side.0 sp.0 sp.1 side.1 sp.2 in
       let held = f.held in let most = f.most in
-      each_near (laid (is_taking q)) (grasped (is_taking q)) (uses_gone q) (uses_come q) s.views id v (all_held s r q)
-      at (omega (arith, held, most))
+      each_near (weight_put_down (is_taking q)) (weight_taken (is_taking q)) (uses_gone q) (uses_come q) s.views id v
+      (all_held s r q) at (omega (arith, held, most))
 
   -- where caches and root places have it as often as it is out, no view has it
   pub in_no_hand : (s : St) (r : IsSound stands l s) (id : ℕ) (v : SeatView) (q : RegionId) (out : ℕ)
       (caches : ℕ → CacheState) (places : ℕ → RootPlace) → get_elem? s.views id ≡ some v → Side s q out
       → Spread stands l s caches places
-      → out ≤ cached stands l (is_taking q) caches + placed stands l (is_taking q) places → IsLaidDown q v
+      → out ≤ cached stands l (is_taking q) caches + placed stands l (is_taking q) places → IsPutDown q v
   in_no_hand s r id v q out caches places at side spread le =
       let f = sums s r q out caches places side spread in let held = f.held in
-      let a : SeatView → ℕ = laid (is_taking q) in let b : SeatView → ℕ = grasped (is_taking q) in
+      let a : SeatView → ℕ = weight_put_down (is_taking q) in let b : SeatView → ℕ = weight_taken (is_taking q) in
       let same = each_even a b (uses_gone q) (uses_come q) s.views id v (all_held s r q) at (omega (arith, held, le)) in
       record {
         taking = same;
@@ -264,12 +264,12 @@ module _ {H : Type 0} (stands : List ℕ → Setting → List Noted → H → Ty
       let sp = some_spread s r in let f = sums s r q (sum_by (is_taking q) x.0.out) sp.0 sp.1
       (arena_side s r q fits x.0 x.1) sp.2 in let held = f.held in let most = f.most in
       let pay = All-weaker (IsView l.shape r.setting)
-      (λ (y : SeatView). laid (is_taking q) y + 0 ≤ grasped (is_taking q) y + 0)
+      (λ (y : SeatView). weight_put_down (is_taking q) y + 0 ≤ weight_taken (is_taking q) y + 0)
       (λ y fine. let k = (fine.roots.held q).holds in omega (arith, k)) s.views r.views in
-      let two = strict_two (laid (is_taking q)) (λ (y : SeatView). 0) (grasped (is_taking q)) (λ (y : SeatView). 0)
-      s.views i j v u ne pay at bt (omega (arith, hv)) (omega (arith, both)) in
-      let z : ℕ = sum_by (λ (y : SeatView). 0) s.views in let L : ℕ = sum_by (laid (is_taking q)) s.views in let G : ℕ =
-      sum_by (grasped (is_taking q)) s.views in
+      let two = strict_two (weight_put_down (is_taking q)) (λ (y : SeatView). 0) (weight_taken (is_taking q))
+      (λ (y : SeatView). 0) s.views i j v u ne pay at bt (omega (arith, hv)) (omega (arith, both)) in
+      let z : ℕ = sum_by (λ (y : SeatView). 0) s.views in let L : ℕ = sum_by (weight_put_down (is_taking q)) s.views in
+      let G : ℕ = sum_by (weight_taken (is_taking q)) s.views in
       let two' : L + z + 2 ≤ G + z = two in omega (arith, two', held, most)
     where
       second_out : (s : St) (r : IsSound stands l s) (q g : RegionId) (fits : q.place.arena < l.shape.arenas)

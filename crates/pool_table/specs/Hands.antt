@@ -94,24 +94,24 @@ from_place w e = noted_weight (place_out w) e
 abbrev pub to_place : (RegionId → ℕ) → Entry → ℕ
 to_place w e = noted_weight (λ (n : Noted). place_in w n.did) e
 
--- what a view took into its hands, and laid down
-abbrev pub grasped : (RegionId → ℕ) → SeatView → ℕ
-grasped w v = weigh (from_arena w) v + (weigh (from_cache w) v + weigh (from_place w) v)
+-- what a view took into its hands, and put down
+abbrev pub weight_taken : (RegionId → ℕ) → SeatView → ℕ
+weight_taken w v = weigh (from_arena w) v + (weigh (from_cache w) v + weigh (from_place w) v)
 
-abbrev pub laid : (RegionId → ℕ) → SeatView → ℕ
-laid w v = weigh (to_arena w) v + (weigh (to_cache w) v + weigh (to_place w) v)
+abbrev pub weight_put_down : (RegionId → ℕ) → SeatView → ℕ
+weight_put_down w v = weigh (to_arena w) v + (weigh (to_cache w) v + weigh (to_place w) v)
 
 -- the taking of q is in the view's hands
 abbrev pub HasTaking : RegionId → SeatView → Type 0
-HasTaking q v = laid (is_taking q) v < grasped (is_taking q) v
+HasTaking q v = weight_put_down (is_taking q) v < weight_taken (is_taking q) v
 
 -- the uses with which it came into the hands, with one more for each birth or growth of theirs, and
 -- those with which it left them
 abbrev pub uses_come : RegionId → SeatView → ℕ
-uses_come q v = grasped (uses_in q) v + weigh (to_place (is_taking q)) v
+uses_come q v = weight_taken (uses_in q) v + weigh (to_place (is_taking q)) v
 
 abbrev pub uses_gone : RegionId → SeatView → ℕ
-uses_gone q v = laid (uses_in q) v
+uses_gone q v = weight_put_down (uses_in q) v
 
 -- the region is in the view's hands: its taking, with these uses
 pub record HasRegion (r : RegionId) (v : SeatView) : Type 0 where
@@ -119,15 +119,15 @@ pub record HasRegion (r : RegionId) (v : SeatView) : Type 0 where
   pub uses : uses_gone r v + r.uses ≡ uses_come r v
 
 -- the taking of q isn't in the view's hands
-pub record IsLaidDown (q : RegionId) (v : SeatView) : Type 0 where
-  pub taking : laid (is_taking q) v ≡ grasped (is_taking q) v
+pub record IsPutDown (q : RegionId) (v : SeatView) : Type 0 where
+  pub taking : weight_put_down (is_taking q) v ≡ weight_taken (is_taking q) v
   pub uses : uses_gone q v ≡ uses_come q v
 
--- no taking is laid down that isn't in hand, and with it all its uses are
+-- no taking is put down that isn't in hand, and with it all its uses are
 pub record IsHeldRight (q : RegionId) (v : SeatView) : Type 0 where
-  pub holds : laid (is_taking q) v ≤ grasped (is_taking q) v
+  pub holds : weight_put_down (is_taking q) v ≤ weight_taken (is_taking q) v
   pub used : uses_gone q v ≤ uses_come q v
-  pub emptied : laid (is_taking q) v ≡ grasped (is_taking q) v → uses_gone q v ≡ uses_come q v
+  pub emptied : weight_put_down (is_taking q) v ≡ weight_taken (is_taking q) v → uses_gone q v ≡ uses_come q v
 
 -- what a note puts down is in the view's hands, and what it tells of a root is the view's to tell:
 -- a place comes home where no birth waits; a birth has its place, and its region with one use less,
@@ -160,7 +160,7 @@ pub record IsOrderly (v : SeatView) : Type 0 where
   -- what is made is of the generation and the capacity that were noted
   pub borne_of : (p g : ℕ) → weigh (on_root ref_born p g) v ≤ weigh (at_birth_of p g) v
   pub borne_as : (p g c : ℕ) → weigh (on_exact ref_born p g c) v ≤ weigh (at_birth_as p g c) v
-  -- no taking is laid down that isn't in hand
+  -- no taking is put down that isn't in hand
   pub held : (q : RegionId) → IsHeldRight q v
 
 -- its section may end with no note: that of a root place in hand where no birth waits

@@ -23,7 +23,7 @@ use Rattle.pool_table.specs.Births.{IsBorn}
 use Rattle.pool_table.specs.Capacities.{KnowsNoMore}
 use Rattle.pool_table.specs.Counts.{weigh, HasCount, HasToken}
 use Rattle.pool_table.specs.Lone.{names, IsLone, CarriesNone}
-use Rattle.pool_table.specs.Hands.{InHand, taken, put_down, HasTaking, grasped, laid, uses_come, uses_gone, to_place}
+use Rattle.pool_table.specs.Hands.{InHand, taken, put_down, HasTaking, weight_taken, weight_put_down, uses_come, uses_gone, to_place}
 use Rattle.pool_table.specs.Sound.{IsSound}
 
 -- a view has the place in its hands, or the end token of its root
@@ -73,9 +73,9 @@ pub record IsInOneHold (s : Shape) (views : List SeatView) (q : RegionId)
     (arena : ArenaState) (caches : ℕ → ℕ → CacheState) (places : ℕ → RootPlace) : Type 0 where
   pub once : sum_by (is_taking q) arena.out ≤ 1
   pub held :
-      sum_by (grasped (is_taking q)) views
+      sum_by (weight_taken (is_taking q)) views
       + (in_caches s (is_taking q) caches + at_places s (is_taking q) places)
-      ≡ sum_by (laid (is_taking q)) views + sum_by (is_taking q) arena.out
+      ≡ sum_by (weight_put_down (is_taking q)) views + sum_by (is_taking q) arena.out
   pub uses : 0 < sum_by (is_taking q) arena.out →
       sum_by (uses_come q) views
       + (in_caches s (uses_in q) caches + at_places s (uses_in q) places)

@@ -24,7 +24,7 @@ use Rattle.pool_table.specs.Counts.{weigh, on_this, ref_vacated, gained_of, lost
 use Rattle.pool_table.specs.Numbers.{IsAbove}
 use Rattle.pool_table.specs.Capacities.{knows_of}
 use Rattle.pool_table.specs.Lone.{names, IsLone, own_bytes}
-use Rattle.pool_table.specs.Hands.{ends, HasNoEnd, InHand, NoneWaits, from_arena, to_arena, grasped, laid, HasTaking, HasRegion, IsLaidDown}
+use Rattle.pool_table.specs.Hands.{ends, HasNoEnd, InHand, NoneWaits, from_arena, to_arena, weight_taken, weight_put_down, HasTaking, HasRegion, IsPutDown}
 use Rattle.pool_table.specs.Sound.{IsView}
 
 -- what the history of a root place tells a view: the present root is the one that it counts, or
@@ -109,10 +109,10 @@ pub record Enters {H : Type 0}
   pub counted : (r : RootId) → lost_of r v ≤ gained_of r v
   pub vacated : (r : RootId) → weigh (on_this ref_vacated r) v ≤ weigh (ends r) v
   -- no taking is in hand twice
-  pub once : (q : RegionId) → grasped (is_taking q) v ≤ laid (is_taking q) v + 1
+  pub once : (q : RegionId) → weight_taken (is_taking q) v ≤ weight_put_down (is_taking q) v + 1
   -- what a note that may come next takes up isn't in hand yet
   pub free : (q : RegionId) (n : Noted) → IsHistory l.shape o (h ++ n ∷ []) → 0 < did_take_up q n →
-      IsLaidDown q v
+      IsPutDown q v
   pub root : (p : ℕ) → o ≡ Root p → TellsRoot l p v h
   -- a region in hand is out of its arena, with this place, class and owner
   pub arena : (a : ℕ) (x : ArenaState) → o ≡ Arena a → IsArenaAfter l.shape a h x →

@@ -24,8 +24,8 @@ use Rattle.pool_table.specs.Learned.{Enters, KnowsCounts}
 use Rattle.pool_table.specs.Sound.{WasHeld}
 
 -- what a step tells: the step, what the seat had, the word that was found, what the seat has then
-abbrev pub Told : Type 0 → Type 1
-Told H = Step (Option H) → Me (Option H) SeatView → ℕ → Me (Option H) SeatView → Type 0
+abbrev pub StepRelation : Type 0 → Type 1
+StepRelation H = Step (Option H) → Me (Option H) SeatView → ℕ → Me (Option H) SeatView → Type 0
 
 abbrev pub no_object : Object
 no_object = Arena 0
@@ -175,13 +175,13 @@ module _ {H : Type 0} (stands : List ℕ → Setting → List Noted → H → Ty
       × (after.1 ≡ (slot, Some x) ∷ me.1) × Enters stands l o me.0 h x
 
   -- it got in where the word was even, and else another view was in the section
-  abbrev pub claims : Told H
+  abbrev pub claims : StepRelation H
   claims s me found after =
       (found % 2 ≡ 0 → GotIn (slot_of l.shape o) me found after)
       × (found % 2 ≡ 1 → (after.0 ≡ me.0) × (after.1 ≡ me.1) × WasHeld stands l o (found / 2) me.0)
 
   -- the same, with a busy mark
-  abbrev pub marks_claims : Told H
+  abbrev pub marks_claims : StepRelation H
   marks_claims s me found after =
       (found % 2 ≡ 0 → GotIn (slot_of l.shape o) me found after)
       × (found % 2 ≡ 1 →
@@ -190,11 +190,11 @@ module _ {H : Type 0} (stands : List ℕ → Setting → List Noted → H → Ty
 
 module _ {H : Type 0} where
   -- the same, and the view that the seat has then counts at most one root of each place
-  abbrev pub counts_one : Told H → Told H
+  abbrev pub counts_one : StepRelation H → StepRelation H
   counts_one told s me found after = told s me found after × CountsOne after.0
 
   -- the note that is named, by this seat, at the next number of the section's object
-  abbrev pub dones : Noted → Told H
+  abbrev pub dones : Noted → StepRelation H
   dones note s me found after =
       IfSome me.0.inside (λ (x : Inside).
       (found ≡ 2 * x.number + 1)
@@ -203,25 +203,25 @@ module _ {H : Type 0} where
       (At x.object (x.number + 1) (noted_by me.0.own.number note)) (me.0.turns - 1))
       × (after.1 ≡ rest me.1))
 
-  abbrev pub idles : Told H
+  abbrev pub idles : StepRelation H
   idles s me found after =
       IfSome me.0.inside (λ (x : Inside).
       (found ≡ 2 * x.number + 1) × (after.0 ≡ left me.0) × (after.1 ≡ rest me.1))
 
   -- nothing changes, and the seat learns of its counts
-  abbrev pub stays : Layout → Told H
+  abbrev pub stays : Layout → StepRelation H
   stays l s me found after = (after ≡ me) × KnowsCounts l me.0
 
   -- steps on the word of a root
-  abbrev pub retains : RootId → Told H
+  abbrev pub retains : RootId → StepRelation H
   retains r s me found after = after ≡ (with_ref me.0 r Retain (me.0.moves - 1), me.1)
 
-  abbrev pub looks : RootId → Told H
+  abbrev pub looks : RootId → StepRelation H
   looks r s me found after =
       after ≡ (with_ref me.0 r (Look (found % 4294967296 / 2)) me.0.moves, me.1)
 
   -- the release that found the raw count 2 ends it, and another gives back a move
-  abbrev pub releases : RootId → Told H
+  abbrev pub releases : RootId → StepRelation H
   releases r s me found after =
       (found % 4294967296 ≡ 2 →
       (after ≡ (with_ref me.0 r Ended me.0.moves, me.1))
@@ -229,13 +229,13 @@ module _ {H : Type 0} where
       × HasNoEnd r (with_ref me.0 r Ended me.0.moves))
       × (found % 4294967296 ≢ 2 → after ≡ (with_ref me.0 r Kept (me.0.moves + 1), me.1))
 
-  abbrev pub vacates : RootId → Told H
+  abbrev pub vacates : RootId → StepRelation H
   vacates r s me found after =
       (after ≡ (with_ref me.0 r Vacated me.0.moves, me.1))
       × InHand r.place (with_ref me.0 r Vacated me.0.moves)
 
   -- the birth of the next root at a vacant place
-  abbrev pub births : RootId → Told H
+  abbrev pub births : RootId → StepRelation H
   births r s me found after =
       let root : RootId =
       record { place = r.place; generation = found / 4294967296 + 1; capacity = r.capacity } in

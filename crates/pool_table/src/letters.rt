@@ -79,7 +79,7 @@ impl<H: Told<Note = Noted>> PoolTable<H> {
         }
     }
 
-    /// SendStep a parcel to a lane: the letter comes with a seat of its own, which holds nothing else.
+    /// Sends a parcel to a lane: the letter comes with a seat of its own, which holds nothing else.
     /// The letter's number is one above those that the seat sent there before. It takes no memory.
     pub fn send(&self, seat: &mut PoolSeat<H>, to: u32, parcel: Parcel) -> PoolSeat<H>
         requires own { IsSeatOf self.now seat.old }
@@ -100,7 +100,7 @@ impl<H: Told<Note = Noted>> PoolTable<H> {
         self.unnumbered(other, Some(letter))
     }
 
-    /// ReceiveStep the letter that the other seat holds, which is spent. It takes no memory.
+    /// Receives the letter that the other seat holds, which is spent. It takes no memory.
     pub fn receive(&self, seat: &mut PoolSeat<H>, other: PoolSeat<H>) -> Letter
         requires own { IsSeatOf self.now seat.old }
         requires other_own { IsSeatOf self.now other }

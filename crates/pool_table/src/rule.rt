@@ -178,7 +178,7 @@ impl Join<SeatView> for AcceptStep {
     ghost spent = { blank None };
 }
 
-/// ReceiveStep the letter of the other seat.
+/// Receives the letter of the other seat.
 pub struct ReceiveStep;
 
 impl Join<SeatView> for ReceiveStep {

@@ -13,7 +13,7 @@ use Rattle.handle_bin.specs.Bins.{HandleValue}
 use Rattle.shared_pool.specs.declared.seat.PoolSeat.{PoolSeat}
 use Rattle.pool_table.specs.declared.views.SeatView.{SeatView}
 use Rattle.pool_table.specs.Counts.{weigh, on_this, on_place, ref_born, ref_ended, ref_vacated}
-use Rattle.pool_table.specs.Hands.{taken, put_down, at_birth, grasped, laid, uses_come, uses_gone, ends}
+use Rattle.pool_table.specs.Hands.{taken, put_down, at_birth, weight_taken, weight_put_down, uses_come, uses_gone, ends}
 use Rattle.shared_pool.specs.SeatViews.{view_of}
 use Rattle.shared_pool.specs.Quotas.{quota_left, has_closed}
 use Rattle.shared_pool.specs.declared.pool.SharedPool.{SharedPool}
@@ -56,7 +56,7 @@ pub record IsHeld (hand : Hand) (v : SeatView) : Type 0 where
   pub places : (p : ℕ) → taken p v ≡ put_down p v + is_place p hand.place
   pub births : (p : ℕ) → weigh (at_birth p) v ≡ weigh (on_place ref_born p) v
   pub regions : (q : RegionId) →
-      grasped (is_taking q) v ≡ laid (is_taking q) v + held_weight (is_taking q) hand.region
+      weight_taken (is_taking q) v ≡ weight_put_down (is_taking q) v + held_weight (is_taking q) hand.region
   pub uses : (q : RegionId) →
       uses_come q v ≡ uses_gone q v + held_weight (uses_in q) hand.region
   pub tokens : (root : RootId) →

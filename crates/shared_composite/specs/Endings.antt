@@ -9,7 +9,7 @@ use Rattle.history_laws.specs.NoteCounts.{is_taking}
 use Rattle.pool_table.specs.declared.views.Entry.{Entry}
 use Rattle.pool_table.specs.declared.views.SeatView.{SeatView}
 use Rattle.pool_table.specs.Counts.{HasToken}
-use Rattle.pool_table.specs.Hands.{taken, put_down, grasped, laid}
+use Rattle.pool_table.specs.Hands.{taken, put_down, weight_taken, weight_put_down}
 use Rattle.shared_pool.specs.declared.pool.SharedPool.{SharedPool}
 use Rattle.shared_pool.specs.declared.seat.PoolSeat.{PoolSeat}
 use Rattle.shared_pool.specs.Closing.{entry_of}
@@ -49,7 +49,7 @@ Holds pool seat (Home handle) = HoldsHandle pool seat handle
 pub record HasOnly (hand : Hand) (v : SeatView) : Type 0 where
   pub places : (p : ℕ) → taken p v ≤ put_down p v + is_place p hand.place
   pub regions : (q : RegionId) →
-      grasped (is_taking q) v ≤ laid (is_taking q) v + held_weight (is_taking q) hand.region
+      weight_taken (is_taking q) v ≤ weight_put_down (is_taking q) v + held_weight (is_taking q) hand.region
   pub tokens : (root : RootId) → HasToken root v → is_token root hand.token ≡ 1
 
 -- what is left behind a step

@@ -17,7 +17,7 @@ use Rattle.pool_table.specs.declared.views.Entry.TheVariants.{At}
 use Rattle.pool_table.specs.declared.views.SeatView.{SeatView}
 use Rattle.shared_pool.specs.declared.seat.PoolSeat.{PoolSeat}
 use Rattle.pool_table.specs.Counts.{weigh}
-use Rattle.pool_table.specs.Hands.{HasRegion, IsLaidDown, from_arena, from_cache, from_place, to_arena, to_cache, to_place}
+use Rattle.pool_table.specs.Hands.{HasRegion, IsPutDown, from_arena, from_cache, from_place, to_arena, to_cache, to_place}
 use Rattle.shared_pool.specs.SeatViews.{view_of}
 use Rattle.pool_table.specs.Views.{with_entry}
 use Rattle.pool_table.proofs.Weights.{weigh_entry}
@@ -28,7 +28,7 @@ use Rattle.shared_pool.specs.Seats.{IsNoted}
 
 -- a taking that isn't in hand comes into it
 pub has_taken : (v : SeatView) (o : Object) (number turns : ℕ) (lane : Option ℕ) (class : ℕ) (r : RegionId)
-    → IsLaidDown r v → r.uses ≡ 0 → HasRegion r
+    → IsPutDown r v → r.uses ≡ 0 → HasRegion r
     (with_entry v (At o number (noted_by lane (plain (Take class r)))) turns)
 has_taken v o number turns lane class r before unused =
     record {
@@ -62,7 +62,7 @@ has_taken v o number turns lane class r before unused =
 pub took_region : (pool : SharedPool) (old new : PoolSeat) (o : Object)
     (number class : ℕ) (r : Region) (setting : Setting) → (view_of old).setting ≡ Some setting
     → IsNoted pool old new o number (plain (Take class r.id)) →
-    IsLaidDown r.id (view_of old) → r.id.uses ≡ 0 → IsInPlace setting.grounds r.id.place r.piece
+    IsPutDown r.id (view_of old) → r.id.uses ≡ 0 → IsInPlace setting.grounds r.id.place r.piece
     → r.id.owner < pool.table.layout.shape.lanes → r.id.class < class_count (geometry_of pool.table.layout.shape)
     → r.id.place.len ≡ size_at r.id.class → HoldsRegion pool new r
 took_region pool old new o number class r setting known noted before unused place owner below len =

@@ -26,7 +26,7 @@ use Rattle.arena_laws.proofs.ArenaLaw.{new-holds, after-holds}
 use Rattle.arena_laws.proofs.OrderlyLaw.{out-slot}
 use Rattle.arena_laws.proofs.TakingLaw.{after-numbers}
 use Rattle.history_laws.specs.NoteCounts.{one_if_so}
-use Rattle.pool_table.specs.Hands.{HasTaking, IsLaidDown}
+use Rattle.pool_table.specs.Hands.{HasTaking, IsPutDown}
 use Rattle.pool_table.specs.Learned.{did_take_up}
 use Rattle.pool_arena.specs.ArenaStates.{ArenaState, law_of, IsOutOf, IsInPlaceAt, IsSameArena, Gives}
 use Rattle.pool_arena.specs.Standing.{arena_told, IsOutIfGiven, StandsMore as ArenaStandsMore}
@@ -223,7 +223,7 @@ module _ {G : Ghosts Home Noted} (l : Layout) (number : ℕ) (old new : PoolSeat
 
   -- a taking that may come next isn't in hand
   pub not_yet : (after : Section Home) (n : Noted) (class : ℕ) (r : RegionId) → n ≡ plain (Take class r)
-      → IsNext l (ArenaOf number) old new section got setting known after n → IsLaidDown r (view_of old)
+      → IsNext l (ArenaOf number) old new section got setting known after n → IsPutDown r (view_of old)
   not_yet after n class r is follows =
       got.learned.free r (noted_by (view_of old).own.number n) follows.follows
       (subst (λ (x : Noted). 0 < did_take_up r (noted_by (view_of old).own.number x)) (sym is)

@@ -32,7 +32,7 @@ use Rattle.pool_table.specs.declared.views.Layout.{Layout}
 use Rattle.pool_table.specs.declared.table.PoolSeat.{PoolSeat as TableSeat}
 use Rattle.pool_table.specs.declared.table.Section.{Section}
 use Rattle.pool_table.specs.Views.{with_entry, entered}
-use Rattle.pool_table.specs.Hands.{from_arena, to_arena, from_cache, to_cache, from_place, to_place, HasRegion, IsLaidDown, PutsDown}
+use Rattle.pool_table.specs.Hands.{from_arena, to_arena, from_cache, to_cache, from_place, to_place, HasRegion, IsPutDown, PutsDown}
 use Rattle.pool_table.specs.Learned.{Enters, in_own, takes_of, gives_of}
 use Rattle.pool_table.specs.Seats.{view_of}
 use Rattle.pool_table.specs.Sections.{GotSection}
@@ -82,7 +82,7 @@ uses_of r = ap (λ (b : Bool). cond {A = ℕ} b r.uses 0) (same_taking-refl r)
 
 module _ (v : SeatView) (r : RegionId) (o : Object) (number turns : ℕ) (n : Noted) (out : TakesOut r n) where
   -- the region is in hand after the note, where its taking wasn't before
-  taken_up : IsLaidDown r v → HasRegion r (with_entry v (At o number n) turns)
+  taken_up : IsPutDown r v → HasRegion r (with_entry v (At o number n) turns)
   taken_up down =
       let t : RegionId → ℕ = is_taking r in let u : RegionId → ℕ = uses_in r in
       let ta = weigh_entry (to_arena t) v (At o number n) turns in let tc =

@@ -26,7 +26,7 @@ use Rattle.history_laws.specs.NoteCounts.{is_taking, weight_or}
 use Rattle.pool_table.specs.declared.views.Layout.{Layout}
 use Rattle.pool_table.specs.declared.views.SeatView.{SeatView}
 use Rattle.pool_table.specs.Closed.{IsClosed}
-use Rattle.pool_table.specs.Hands.{grasped, laid, HasTaking}
+use Rattle.pool_table.specs.Hands.{weight_taken, weight_put_down, HasTaking}
 use Rattle.pool_table.specs.Holders.{sum_to, region_at, in_caches, at_places}
 use Rattle.pool_table.specs.Views.{parts_of}
 use Rattle.pool_table.proofs.Partition.{sum_to_eq, sum_to_none}
@@ -261,10 +261,10 @@ module _ (l : Layout) (v : SeatView) (homes : List (Option Home)) (words : List 
         let one = closed.takings q fits a.law caches places
         (record { arena_is = a.after; caches_are = caches_are; places_are = places_are }) in
         let same = ap (λ (xs : List RegionId). sum_by (is_taking q) xs) a.out_is in let once = one.once in
-        let held = one.held in let g = sum_by-cons (grasped (is_taking q)) v [] in let d =
-        sum_by-cons (laid (is_taking q)) v [] in
-        let le = (closed.view.roots.held q).holds in let x : ℕ = laid (is_taking q) v in let y : ℕ =
-        grasped (is_taking q) v in
+        let held = one.held in let g = sum_by-cons (weight_taken (is_taking q)) v [] in let d =
+        sum_by-cons (weight_put_down (is_taking q)) v [] in
+        let le = (closed.view.roots.held q).holds in let x : ℕ = weight_put_down (is_taking q) v in let y : ℕ =
+        weight_taken (is_taking q) v in
         let ge : y ≤ x = dite (dec_le y x) (λ le. le)
         (λ gt. absurd (nothing q (let z : x < y = omega (arith, gt) in z))) in
         let sum = total (is_taking q) in

@@ -21,7 +21,7 @@ use Rattle.pool_table.specs.Counts.{weigh, weigh_in, on_place, on_this, ref_born
 use Rattle.pool_law.specs.declared.id.RegionId.{RegionId}
 use Rattle.pool_law.proofs.ListLemmas.{map-get}
 use Rattle.history_laws.specs.NoteCounts.{is_taking}
-use Rattle.pool_table.specs.Hands.{HasTaking, at_in, at_out, taken, put_down, from_arena, to_arena, from_cache, to_cache, from_place, to_place, grasped, laid}
+use Rattle.pool_table.specs.Hands.{HasTaking, at_in, at_out, taken, put_down, from_arena, to_arena, from_cache, to_cache, from_place, to_place, weight_taken, weight_put_down}
 use Rattle.shared_pool.specs.SeatViews.{view_of}
 use Rattle.pool_table.specs.Seats.{view_of as table_view}
 use Rattle.pool_table.specs.Views.{joined, parts_of}
@@ -110,7 +110,7 @@ no_taking (s ∷ ss) all q =
     let c = more (from_place (is_taking q)) s ss e.alone in
     let d = more (to_arena (is_taking q)) s ss e.alone in let f = more (to_cache (is_taking q)) s ss e.alone in
     let k = more (to_place (is_taking q)) s ss e.alone in
-    let x : ℕ = grasped (is_taking q) (view_of s) in let y : ℕ = laid (is_taking q) (view_of s) in
+    let x : ℕ = weight_taken (is_taking q) (view_of s) in let y : ℕ = weight_put_down (is_taking q) (view_of s) in
     let le : x ≤ y = dite (dec_le x y) (λ le. le)
     (λ gt. absurd (e.nothing.region q (let z : y < x = omega (arith, gt) in z))) in
     omega (arith, a, b, c, d, f, k, ih, le)
@@ -223,8 +223,8 @@ module _ (pool : SharedPool) (seats : List PoolSeat) (done : AreDone pool seats)
     pub takings_joined : (q : RegionId) → HasTaking q v → ⊥
     takings_joined q hand =
         let le = subst HasNoTakingIn (sym parts) (no_taking seats empty_handed) q in
-        let x : ℕ = grasped (is_taking q) v in let y : ℕ = laid (is_taking q) v in let le' : x ≤ y = le in
-        let lt : y < x = hand in
+        let x : ℕ = weight_taken (is_taking q) v in let y : ℕ = weight_put_down (is_taking q) v in
+        let le' : x ≤ y = le in let lt : y < x = hand in
         absurd (omega (arith, le', lt))
 
     pub tokens_joined : HasNoToken (parts_of v)

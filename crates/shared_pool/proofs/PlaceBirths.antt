@@ -36,7 +36,7 @@ use Rattle.pool_table.specs.declared.views.Entry.TheVariants.{At, Ref}
 use Rattle.pool_table.specs.declared.views.SeatView.{SeatView}
 use Rattle.pool_table.specs.Views.{with_entry}
 use Rattle.pool_table.specs.Counts.{weigh, on_root, on_place, on_this, ref_born, ref_ended, ref_vacated, with_ref, HasToken}
-use Rattle.pool_table.specs.Hands.{at_in, at_out, at_birth, at_birth_of, at_birth_as, ends, from_arena, to_arena, from_cache, to_cache, from_place, to_place, InHand, NoneWaits, Waits, HasEnded, HasRegion, IsLaidDown, IsOrderly}
+use Rattle.pool_table.specs.Hands.{at_in, at_out, at_birth, at_birth_of, at_birth_as, ends, from_arena, to_arena, from_cache, to_cache, from_place, to_place, InHand, NoneWaits, Waits, HasEnded, HasRegion, IsPutDown, IsOrderly}
 use Rattle.pool_table.proofs.Weights.{weigh_entry}
 use Rattle.shared_pool.specs.RootNotes.{birth, end_of}
 use Rattle.shared_pool.specs.RootPlaces.{RootState, PlaceState, last_generation, law_root, law_place, PlaceStandsFor}
@@ -214,7 +214,7 @@ end_waits v k t lane root region token over =
 
 -- after both steps no birth waits at the place, and the region that was there is in hand
 pub end_leaves : (v : SeatView) (k t m : ℕ) (lane : Option ℕ) (root : RootId) (region : RegionId)
-    → NoneWaits root.place v → IsLaidDown region v →
+    → NoneWaits root.place v → IsPutDown region v →
     let w = with_ref (with_entry v (At (RootOf root.place) k (noted_by lane (end_of root region))) t) root Vacated m in
     NoneWaits root.place w × HasRegion region w
 end_leaves v k t m lane root region none down =
