@@ -21,7 +21,7 @@ use shared_pool::{PoolSeat, SharedPool, Went};
 use std::sync::Wait;
 
 /// Bytes are laid over those of a root, from an offset on.
-#[inline]
+#[inline(always)]
 pub fn set<W: Wait>(
     rt: &W,
     pool: &SharedPool,
@@ -72,7 +72,7 @@ fn wait_to_set<W: Wait>(
 }
 
 /// Bytes of a root are copied out, from an offset on.
-#[inline]
+#[inline(always)]
 pub fn get<W: Wait>(
     rt: &W,
     pool: &SharedPool,

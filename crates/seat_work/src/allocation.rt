@@ -55,7 +55,7 @@ pub fn allocate<W: Wait>(
     ensures worn { IfErr result (IsWorn pool.now seat.old seat.new) }
 {
     match pop_handle(rt, pool, seat) {
-        Some(handle) => allocate_at(rt, pool, seat, handle, size, class, watch),
+        Some(handle) => allocate_at(rt, pool, seat, handle, size, class, &watch),
         None => Err(AllocNo::NoHandle),
     }
 }
@@ -69,7 +69,7 @@ fn allocate_at<W: Wait>(
     handle: Handle,
     size: u32,
     class: u32,
-    watch: Option<Watch>,
+    watch: &Option<Watch>,
 ) -> Result<RootId, AllocNo>
     requires works { Works pool.now (with_place handle.place) 5 0 seat.old }
     requires handle { IsHandle pool.now handle }
@@ -100,7 +100,7 @@ fn allocate_taken<W: Wait>(
     handle: Handle,
     size: u32,
     class: u32,
-    watch: Option<Watch>,
+    watch: &Option<Watch>,
 ) -> Result<RootId, AllocNo>
     requires works { Works pool.now (with_place handle.place) 4 0 seat.old }
     requires handle { IsHandle pool.now handle }
@@ -131,7 +131,7 @@ fn bear_or_return<W: Wait>(
     handle: Handle,
     region: Region,
     size: u32,
-    watch: Option<Watch>,
+    watch: &Option<Watch>,
 ) -> Result<RootId, AllocNo>
     requires works { Works pool.now (with_both handle.place region.id) 3 0 seat.old }
     requires handle { IsHandle pool.now handle }

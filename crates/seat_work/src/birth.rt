@@ -23,7 +23,7 @@ pub(crate) fn bear(
     handle: Handle,
     region: Region,
     capacity: u32,
-    watch: Option<Watch>,
+    watch: &Option<Watch>,
 ) -> Result<RootId, Worn>
     requires works { Works pool.now (with_both handle.place region.id) 1 0 seat.old }
     requires handle { IsHandle pool.now handle }
@@ -44,7 +44,7 @@ pub(crate) fn bear(
     ensures worn { IfErr result (λ worn. FoundWorn pool.now handle.place seat.old) }
     ensures later { IsLater pool.now seat.old seat.new }
 {
-    match pool.try_birth(seat, handle, region, capacity, watch) {
+    match pool.try_birth(seat, handle, region, capacity, *watch) {
         Ok((_number, root)) => Ok(root),
         Err(worn) => Err(worn),
     }

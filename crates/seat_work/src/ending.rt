@@ -16,7 +16,7 @@ use shared_pool::{PoolSeat, Retired, SharedPool, Went};
 use std::sync::Wait;
 
 // A root whose count ended, ends.
-#[inline]
+#[inline(always)]
 pub(crate) fn end<W: Wait>(rt: &W, pool: &SharedPool, seat: &mut PoolSeat, token: EndToken)
     requires works { Works pool.now (with_token token.root) 4 0 seat.old }
     requires token { HoldsToken seat.old token }
@@ -28,7 +28,7 @@ pub(crate) fn end<W: Wait>(rt: &W, pool: &SharedPool, seat: &mut PoolSeat, token
 }
 
 // The root's end is noted, and the handle of its place and its region come.
-#[inline]
+#[inline(always)]
 fn retire(pool: &SharedPool, seat: &mut PoolSeat, token: EndToken) -> (Handle, Region)
     requires works { Works pool.now (with_token token.root) 1 0 seat.old }
     requires token { HoldsToken seat.old token }

@@ -23,19 +23,19 @@ pub returns-in-Ok-clause-born : goal.returns-in-Ok-clause-born
 returns-in-Ok-clause-born c =
     let born = c.in-Ok.ensures {u = tt} in
     born_root c.args.pool.now c.args.seat.now c.try_birth.new.seat born.seat c.in-Ok.root c.args.handle.place
-    c.in-Ok._number c.args.region.id c.args.watch c.requires.works born.did born.root.0
+    c.in-Ok._number c.args.region.id c.args.watch.now c.requires.works born.did born.root.0
 
 pub returns-in-Ok-clause-noted : goal.returns-in-Ok-clause-noted
 returns-in-Ok-clause-noted c =
     let born = c.in-Ok.ensures {u = tt} in
     born_with c.args.pool.now c.args.seat.now c.try_birth.new.seat born.same c.requires.works.seat born.seat
-    c.in-Ok.root c.in-Ok._number c.args.region.id c.args.watch _ born.did (omega arith) born.fresh born.lone
+    c.in-Ok.root c.in-Ok._number c.args.region.id c.args.watch.now _ born.did (omega arith) born.fresh born.lone
 
 pub returns-in-Ok-clause-later : goal.returns-in-Ok-clause-later
 returns-in-Ok-clause-later c =
     let born = c.in-Ok.ensures {u = tt} in
     later_born c.args.pool.now c.args.seat.now c.try_birth.new.seat born.same c.requires.works.seat born.seat
-    c.in-Ok.root c.in-Ok._number c.args.region.id c.args.watch _ born.did (omega arith) born.fresh
+    c.in-Ok.root c.in-Ok._number c.args.region.id c.args.watch.now _ born.did (omega arith) born.fresh
 
 pub returns-in-Err-clause-kept : goal.returns-in-Err-clause-kept
 returns-in-Err-clause-kept c =
