@@ -79,6 +79,7 @@ impl Tally {
     }
 
     /// One more block: the sum of the bytes that it read, or None where it was refused.
+    #[inline(always)]
     pub fn add(&mut self, block: Option<u64>) {
         match block {
             Some(sum) => self.sum = self.sum.wrapping_add(sum),
@@ -120,11 +121,38 @@ pub fn run<W: Wait>(
         }
         Workload::Batches(size) => run_batches(rt, pool, sizes, size, blocks, runner),
         Workload::Places => run_places(rt, pool, sizes, blocks, draws, runner),
+        _ => run_alone(rt, pool, sizes, work, blocks, draws, seat),
+    }
+}
+
+// So many blocks of a workload in which each block stands alone. Mixed and plain blocks have a loop
+// each, in which it is known which workload it is.
+fn run_alone<W: Wait>(
+    rt: &W,
+    pool: &SharedPool,
+    sizes: &SizeClasses,
+    work: Workload,
+    blocks: u32,
+    draws: &mut Draws,
+    seat: &mut PoolSeat,
+) -> Tally
+    requires sizes { sizes.now ≡ geometry_of pool.now.table.layout.shape }
+    requires may { MayRun pool.now blocks seat.old }
+    ensures { HasRun pool.now seat.old seat.new }
+{
+    match work {
+        Workload::Mixed(size) => {
+            run_blocks(rt, pool, sizes, Workload::Mixed(size), blocks, draws, seat)
+        }
+        Workload::Plain(size) => {
+            run_blocks(rt, pool, sizes, Workload::Plain(size), blocks, draws, seat)
+        }
         _ => run_blocks(rt, pool, sizes, work, blocks, draws, seat),
     }
 }
 
 // So many blocks, one after another.
+#[inline(always)]
 fn run_blocks<W: Wait>(
     rt: &W,
     pool: &SharedPool,
@@ -141,12 +169,13 @@ fn run_blocks<W: Wait>(
     let mut tally = Tally::none_of(0);
     for done in 0..blocks {
         let (size, byte) = asked(work, sizes, done, draws);
-        tally.add(one_block(rt, pool, sizes, work, size, byte, seat));
+        one_block(rt, pool, sizes, work, size, byte, seat, &mut tally);
     }
     tally
 }
 
 /// The size of the next buffer, and the byte that is written.
+#[inline(always)]
 pub fn asked(work: Workload, sizes: &SizeClasses, done: u32, draws: &mut Draws) -> (u32, u8) {
     match work {
         Workload::Mixed(size) | Workload::Passed(size) => {
@@ -175,7 +204,8 @@ pub fn class_size(sizes: &SizeClasses, class: u32) -> u32 {
     }
 }
 
-// One block. None where no buffer was to be had.
+// One block, which the tally then has.
+#[inline(always)]
 fn one_block<W: Wait>(
     rt: &W,
     pool: &SharedPool,
@@ -184,24 +214,28 @@ fn one_block<W: Wait>(
     size: u32,
     byte: u8,
     seat: &mut PoolSeat,
-) -> Option<u64>
+    tally: &mut Tally,
+)
     requires sizes { sizes.now ≡ geometry_of pool.now.table.layout.shape }
     requires works { Works pool.now empty_hand block_turns block_moves seat.old }
     ensures { Goes pool.now empty_hand block_turns block_moves seat.old seat.new }
 {
-    let class = sizes.class_of(size)?;
+    let Some(class) = sizes.class_of(size) else {
+        return tally.add(None);
+    };
     let Ok(root) = allocate(rt, pool, seat, size, class, None) else {
-        return None;
+        return tally.add(None);
     };
     let sum = access(rt, pool, seat, root, work, byte);
+    tally.add(Some(sum));
     if work == Workload::Left && byte % 32 == 0 {
-        return Some(sum);
+        return;
     }
     release(rt, pool, seat, root);
-    Some(sum)
 }
 
 // What a block does with its buffer.
+#[inline(always)]
 fn access<W: Wait>(
     rt: &W,
     pool: &SharedPool,
@@ -226,6 +260,7 @@ fn access<W: Wait>(
 
 /// Four bytes are written, and four are read through the slice of eight from the third on. The
 /// answer is their sum.
+#[inline(always)]
 pub fn write_and_read<W: Wait>(
     rt: &W,
     pool: &SharedPool,
