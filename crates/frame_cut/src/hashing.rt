@@ -58,8 +58,7 @@ pub fn hash_stream<R: Threads + Wait + Sync, S: Source>(
     told_or_none(told, closed)
 }
 
-// Steps the cutter and its workers, each worker on a thread, until all have finished or one finds no
-// memory.
+// Steps the cutter and its workers, each on a thread, until all have finished or one finds no memory.
 fn step_all<R: Threads + Wait + Sync, S: Source>(
     rt: &R,
     alloc: Global,
@@ -77,7 +76,7 @@ fn step_all<R: Threads + Wait + Sync, S: Source>(
     ensures finished { OnOk result.2 ((result.0.stage ≡ Stage.Over)
         × All (λ w. w.work ≡ Work.Done) result.1.items) }
 {
-    let threads = desk.workers;
+    let threads = desk.workers.saturating_add(1);
     let mut cutting = Cutting {
         source,
         desk: &mut desk,
