@@ -1,4 +1,4 @@
--- The turns of a command that begins an allocation, and what an allocation asks of the desk's counts.
+-- The turns of a command that begins an allocation, and what an allocation asks of the lane context's counts.
 use Rattle.std.proofs.Common.{◌≡◌, ℕ, ◌*◌, ◌<◌, List, [], ◌∷◌, Bool, length, refl, sym, ap, ◌∙◌, subst, arith, Option, Some, None}
 use Rattle.std.specs.Prelude.{if◌then◌else◌, is_none, option_and_then, vec_capacity}
 use Rattle.std.proofs.lemmas.List.{length-map}
@@ -26,8 +26,10 @@ use Rattle.lane_core.specs.declared.context.Turn.TheVariants.{Went}
 use Rattle.lane_core.specs.declared.access.Refusal.TheVariants.{Taken}
 use Rattle.lane_core.specs.declared.allotment.Allotting.{Allotting as AllotStage}
 use Rattle.lane_core.specs.declared.allotment.Allotting.TheVariants.{Handle as AskHandle}
-use Rattle.lane_core.specs.declared.allotment.Allots.{Allots}
-use Rattle.lane_core.specs.declared.allotment.Allots.TheVariants.{New}
+use Rattle.lane_core.specs.declared.allotment.Allotted.{Allotted}
+use Rattle.lane_core.specs.declared.allotment.Allotted.TheVariants.{New}
+use Rattle.lane_core.specs.declared.stage_step.StageStep.{StageStep}
+use Rattle.lane_core.specs.declared.stage_step.StageStep.TheVariants.{Done}
 use Rattle.lane_core.specs.Allotments as allotment
 use Rattle.lane_core.specs.Accesses.{IsState}
 use Rattle.seat_work.specs.Changes.{one_for}
@@ -65,36 +67,37 @@ module _ (pool : SharedPool) (old mid : Context) (name size class : ℕ) (stage 
           allotment.asks_of stage old.asked;
     }) where
   -- it can be answered
-  pub allot_can : (allots : Allots) → allotment.HasAllotted pool old.seat mid.seat old.sampler mid.sampler old.notes
-      mid.notes size class stage allots → HasRoomFor pool old (allotment.left_of stage)
+  pub allot_can : (came : StageStep AllotStage Allotted)
+      → allotment.HasAllotted pool old.seat mid.seat old.sampler mid.sampler old.notes mid.notes size class stage
+      came → HasRoomFor pool old (allotment.left_of stage)
       → length old.replies.items < vec_capacity old.replies → CanAnswer mid
-  allot_can allots did room replies =
+  allot_can came did room replies =
       let start : Context = record old {
         seat = mid.seat;
         sampler = mid.sampler;
         asked =
             allotment.asks_of stage old.asked;
       } in
-      answers_behind pool (allotment.hand_of stage) old d (allotment.left_of stage) (allotment.left_after allots) room
+      answers_behind pool (allotment.hand_of stage) old d (allotment.left_of stage) (allotment.left_after came) room
       (view_of mid.seat) did.wrote.added did.written did.wrote.more did.wrote.noted did.spends start mid refl
       (noted_so start mid did.written did.log mid_so) replies
 
   -- a root was born, and what its count asks of the context that noted that
   module _ (root : RootId) (region : RegionId)
       (did : allotment.HasAllotted pool old.seat mid.seat old.sampler mid.sampler old.notes mid.notes size class stage
-      (New root region)) where
+      (Done (New root region))) where
     abbrev born_start : Context
     born_start = record old { seat = mid.seat; sampler = mid.sampler; asked = allotment.asks_of stage old.asked }
 
     new_staged : Staged pool (allotment.hand_of stage) empty_hand old born_start mid did.wrote.added (one_for root)
-    new_staged = allotted pool old mid name size class stage d class_is mid_so (New root region) did
+    new_staged = allotted pool old mid name size class stage d class_is mid_so (Done (New root region)) did
 
     counts_kept : mid.counts ≡ old.counts
     counts_kept =
         staged_counts pool (allotment.hand_of stage) empty_hand old born_start mid did.wrote.added (one_for root)
         new_staged
 
-    -- the root's place is one of the desk's
+    -- the root's place is one of the lane context's
     pub new_place : root.place < length mid.counts
     new_place =
         let places : length mid.counts ≡ pool.table.layout.shape.lanes * pool.table.layout.shape.handles =

@@ -23,7 +23,8 @@ use Rattle.shared_pool.specs.SeatLanes.{lane_of}
 use Rattle.shared_pool.specs.Seats.{IsPoolSeat}
 use Rattle.lane_core.specs.Logs.{HasWritten}
 use Rattle.lane_core.specs.declared.allotment.Allotting.TheVariants.{Birth}
-use Rattle.lane_core.specs.declared.allotment.Allots.TheVariants.{New as NewRoot}
+use Rattle.lane_core.specs.declared.allotment.Allotted.TheVariants.{New as NewRoot}
+use Rattle.lane_core.specs.declared.stage_step.StageStep.TheVariants.{Done}
 use Rattle.seat_work.specs.Hands.{empty_hand}
 use Rattle.lane_core.specs.Allotments.{MayAllot, HasAllotted, hand_of, left_of, left_after}
 use Rattle.lane_core.proofs.SeatCounts.{born_added}
@@ -56,7 +57,7 @@ module _ (pool : SharedPool) (old new : PoolSeat) (class : ℕ)
       born ≡ Note.At (Root root.place) number (Did.Birth root (record r.id { uses = r.id.uses + 1 }))
       → step ≡ Note.Ref root Born →
       HasAllotted pool old new first last log later size class (Birth h r)
-      (NewRoot root (record r.id { uses = r.id.uses + 1 }))
+      (Done (NewRoot root (record r.id { uses = r.id.uses + 1 })))
   root_born h r root number size first last born step log later adds may noted at long sampled it next_it =
       let n : Noted = birth root r.id (watch_of last) in let e : Entry =
       note_at pool old new may.seat_is is (Root root.place) number n in let es : List Entry =
@@ -88,7 +89,7 @@ module _ (pool : SharedPool) (old new : PoolSeat) (class : ℕ)
         place = (subst (λ (p : ℕ). p < shape.lanes * shape.handles) (sym at) may.fits.0.place, long);
         spends =
             spends v w es 1 grows (left_of (Birth h r))
-            (left_after (NewRoot root (record r.id { uses = r.id.uses + 1 }))) (omega arith) (omega arith)
+            (left_after (Done (NewRoot root (record r.id { uses = r.id.uses + 1 })))) (omega arith) (omega arith)
             (omega arith) (λ to. omega arith);
         asked = λ n. omega arith;
       }

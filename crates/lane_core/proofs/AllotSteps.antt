@@ -29,7 +29,8 @@ use Rattle.shared_pool.specs.Seats.{IsPoolSeat, IsNoted, FoundBusy}
 use Rattle.lane_core.specs.Logs.{HasWritten}
 use Rattle.lane_core.specs.declared.allotment.Allotting.{Allotting}
 use Rattle.lane_core.specs.declared.allotment.Allotting.TheVariants.{Handle, Cache as AskCache, Arena as AskArena, Birth, Home}
-use Rattle.lane_core.specs.declared.allotment.Allots.TheVariants.{More, Held as HeldBack, NoHandle, Full}
+use Rattle.lane_core.specs.declared.allotment.Allotted.TheVariants.{NoHandle, Full}
+use Rattle.lane_core.specs.declared.stage_step.StageStep.TheVariants.{More, Held as HeldBack, Done}
 use Rattle.seat_work.specs.Hands.{empty_hand, IsHeld}
 use Rattle.lane_core.specs.Allotments.{MayAllot, HasAllotted, Fits, IsOwnHandle, hand_of, left_of, left_after, rest_of, rest_after, asks_of}
 use Rattle.lane_core.proofs.SeatCounts.{none_added, still_added}
@@ -83,7 +84,7 @@ module _ (pool : SharedPool) (old new : PoolSeat) (class : ℕ)
       (sampler : Sampling) (size : ℕ) where
     pub asked_none : MayAllot pool old class Handle → IsNoted pool old new (Bin lane) number (plain Did.NoHandle)
         → note ≡ Note.At (Bin lane) number Did.NoHandle →
-        HasAllotted pool old new sampler sampler log later size class Handle NoHandle
+        HasAllotted pool old new sampler sampler log later size class Handle (Done NoHandle)
     asked_none may noted it =
         let n : Noted = plain Did.NoHandle in let e : Entry = note_at pool old new may.seat_is is (Bin lane) number n in
         let grows : Grows v w (e ∷ []) 0 = grows_noted pool old new may.seat_is is (Bin lane) number n noted in
@@ -92,7 +93,7 @@ module _ (pool : SharedPool) (old new : PoolSeat) (class : ℕ)
           log = adds;
           wrote =
               wrote_note pool old new may.seat_is is same sampler (rest_of shape lane size class Handle) none_asked
-              (rest_after shape lane size class NoHandle) (Bin lane) number n note noted it (tt, refl)
+              (rest_after shape lane size class (Done NoHandle)) (Bin lane) number n note noted it (tt, refl)
               (read_no_handle shape lane size class 0 number (entry_of e) refl);
           hand =
               held_on v w (e ∷ []) 0 empty_hand empty_hand grows (no_handle lane number v.own.number empty_hand lane)
@@ -104,7 +105,7 @@ module _ (pool : SharedPool) (old new : PoolSeat) (class : ℕ)
               { gains = λ q. refl; loses = λ q. refl; needs = λ q. refl; ends = λ q. refl }) refl;
           place = tt;
           spends =
-              spends v w (e ∷ []) 0 grows (left_of Handle) (left_after NoHandle) (omega arith) (omega arith)
+              spends v w (e ∷ []) 0 grows (left_of Handle) (left_after (Done NoHandle)) (omega arith) (omega arith)
               (omega arith) (λ to. omega arith);
           asked = λ n. omega arith;
         }
@@ -295,7 +296,7 @@ module _ (pool : SharedPool) (old new : PoolSeat) (class : ℕ)
       pub went_home : MayAllot pool old class (Home h)
           → IsNoted pool old new (Bin h.lane) number (plain (Did.Home h.place))
           → note ≡ Note.At (Bin h.lane) number (Did.Home h.place) →
-          HasAllotted pool old new sampler sampler log later size class (Home h) Full
+          HasAllotted pool old new sampler sampler log later size class (Home h) (Done Full)
       went_home may noted it =
           let o : Object = Bin h.lane in let n : Noted = plain (Did.Home h.place) in let e : Entry =
           note_at pool old new may.seat_is is o number n in
@@ -305,7 +306,7 @@ module _ (pool : SharedPool) (old new : PoolSeat) (class : ℕ)
             log = adds;
             wrote =
                 wrote_note pool old new may.seat_is is same sampler (rest_of shape lane size class (Home h)) none_asked
-                (rest_after shape lane size class Full) o number n note noted it (tt, refl)
+                (rest_after shape lane size class (Done Full)) o number n note noted it (tt, refl)
                 (read_home shape lane size class h.place number (entry_of e) h.lane may.fits.1 refl);
             hand =
                 held_on v w (e ∷ []) 0 (hand_of (Home h)) empty_hand grows
@@ -317,7 +318,7 @@ module _ (pool : SharedPool) (old new : PoolSeat) (class : ℕ)
                 { gains = λ q. refl; loses = λ q. refl; needs = λ q. refl; ends = λ q. refl }) refl;
             place = tt;
             spends =
-                spends v w (e ∷ []) 0 grows (left_of (Home h)) (left_after Full) (omega arith) (omega arith)
+                spends v w (e ∷ []) 0 grows (left_of (Home h)) (left_after (Done Full)) (omega arith) (omega arith)
                 (omega arith) (λ to. omega arith);
             asked = λ n. omega arith;
           }

@@ -31,8 +31,10 @@ use Rattle.lane_core.specs.declared.context.Turn.{Turn}
 use Rattle.lane_core.specs.declared.context.Turn.TheVariants.{Went, Pending}
 use Rattle.lane_core.specs.declared.allotment.Allotting.{Allotting as AllotStage}
 use Rattle.lane_core.specs.declared.allotment.Allotting.TheVariants.{Handle as AllotHandle, Cache as AllotCache, Arena as AllotArena, Birth as AllotBirth, Home as AllotHome}
-use Rattle.lane_core.specs.declared.allotment.Allots.{Allots}
-use Rattle.lane_core.specs.declared.allotment.Allots.TheVariants.{More, Held as AllotHeld, New}
+use Rattle.lane_core.specs.declared.allotment.Allotted.{Allotted}
+use Rattle.lane_core.specs.declared.allotment.Allotted.TheVariants.{New}
+use Rattle.lane_core.specs.declared.stage_step.StageStep.{StageStep}
+use Rattle.lane_core.specs.declared.stage_step.StageStep.TheVariants.{More, Held as AllotHeld, Done}
 use Rattle.lane_core.specs.Allotments as allotment
 use Rattle.lane_core.specs.Budgets.{Left, Spends, notes_alone}
 use Rattle.seat_work.specs.Changes.{one_for}
@@ -72,10 +74,11 @@ module _ (pool : SharedPool) (old mid : Context) (name size class : ℕ) (stage 
   abbrev allot_start : Context
   allot_start = record old { seat = mid.seat; sampler = mid.sampler; asked = allotment.asks_of stage old.asked }
 
-  module _ (allots : Allots) (did : allotment.HasAllotted pool old.seat mid.seat old.sampler mid.sampler old.notes
-      mid.notes size class stage allots) where
-    pub allotted : Staged pool (allotment.hand_of stage) (allotment.hand_after allots) old allot_start mid
-        did.wrote.added (allotment.born_in allots)
+  module _ (came : StageStep AllotStage Allotted)
+      (did : allotment.HasAllotted pool old.seat mid.seat old.sampler mid.sampler old.notes mid.notes size class stage
+      came) where
+    pub allotted : Staged pool (allotment.hand_of stage) (allotment.hand_after came) old allot_start mid
+        did.wrote.added (allotment.born_in came)
     allotted = record {
       context = d;
       start_is = refl;
@@ -85,18 +88,18 @@ module _ (pool : SharedPool) (old mid : Context) (name size class : ℕ) (stage 
       more = did.wrote.more;
       held = did.hand;
       sampled = did.wrote.sampled;
-      adds = λ cs. adds_recounted old.counts cs (map entry_of did.wrote.added) (allotment.born_in allots) did.counts;
+      adds = λ cs. adds_recounted old.counts cs (map entry_of did.wrote.added) (allotment.born_in came) did.counts;
       noted =
           subst (HasNoted allot_start mid) (sym did.wrote.noted) (noted_so allot_start mid did.written did.log mid_so);
     }
 
     pub read_on : ReadsOn (allotment.rest_of old.shape (lane_of old.seat) size class stage)
         (map entry_of did.wrote.added) (allotment.asks_of stage)
-        (allotment.rest_after old.shape (lane_of old.seat) size class allots)
+        (allotment.rest_after old.shape (lane_of old.seat) size class came)
     read_on =
         subst (λ (shape : Shape). ReadsOn (allotment.rest_of shape (lane_of old.seat) size class stage)
         (map entry_of did.wrote.added) (allotment.asks_of stage)
-        (allotment.rest_after shape (lane_of old.seat) size class allots)) (sym d.shape) did.wrote.read
+        (allotment.rest_after shape (lane_of old.seat) size class came)) (sym d.shape) did.wrote.read
 
   module _ (s : LaneState) (command : Command) (are : NamesAre s.names old.names) where
     -- how the law reads it from a stage on
@@ -106,11 +109,12 @@ module _ (pool : SharedPool) (old mid : Context) (name size class : ℕ) (stage 
     abbrev reads_at_stage : AllotStage → Reader Answer
     reads_at_stage at = reads_from old.shape (lane_of old.seat) s command (Allotting name size class at)
 
-    name_fits : (allots : Allots) → allotment.HasAllotted pool old.seat mid.seat old.sampler mid.sampler old.notes
-        mid.notes size class stage allots → name < length old.names → name < length mid.names
-    name_fits allots did lt =
-        let is : mid.names ≡ old.names = staged_names pool (allotment.hand_of stage) (allotment.hand_after allots) old
-        allot_start mid did.wrote.added (allotment.born_in allots) (allotted allots did) in
+    name_fits : (came : StageStep AllotStage Allotted)
+        → allotment.HasAllotted pool old.seat mid.seat old.sampler mid.sampler old.notes mid.notes size class stage
+        came → name < length old.names → name < length mid.names
+    name_fits came did lt =
+        let is : mid.names ≡ old.names = staged_names pool (allotment.hand_of stage) (allotment.hand_after came) old
+        allot_start mid did.wrote.added (allotment.born_in came) (allotted came did) in
         let same = ap (λ (names : List (Option Bound)). length names) is in omega (arith, same, lt)
 
     module _ (lt : name < length old.names) (low : old.asked + (allotment.left_of stage).asks ≤ sweep_period) where
@@ -212,12 +216,12 @@ module _ (pool : SharedPool) (old mid : Context) (name size class : ℕ) (stage 
       -- a root was born, and its name is bound
       pub allot_new : (new : Context) (root : RootId) (region : RegionId)
           → allotment.HasAllotted pool old.seat mid.seat old.sampler mid.sampler old.notes mid.notes size class stage
-          (New root region) → (cs : List Counted) → CountsMore mid.counts cs root → (turn : Turn) →
+          (Done (New root region)) → (cs : List Counted) → CountsMore mid.counts cs root → (turn : Turn) →
           Concludes (record mid { names = slice_set mid.names name (Some (Plain (root_view root))); counts = cs }) new
           (Reply.OkPlace region.place.len region.place) turn
           → HasTurned pool old new s command (Allotting name size class stage) turn
       allot_new new root region did cs more turn concludes =
-          let st = allotted (New root region) did in let w : ViewData = root_view root in let asks =
+          let st = allotted (Done (New root region)) did in let w : ViewData = root_view root in let asks =
           allotment.asks_of stage in
           let names_are = staged_names pool (allotment.hand_of stage) empty_hand old allot_start mid did.wrote.added
           (one_for root) st in
@@ -240,24 +244,25 @@ module _ (pool : SharedPool) (old mid : Context) (name size class : ℕ) (stage 
           (body_of (allotment.rest_of old.shape (lane_of old.seat) size class stage)) (λ log. refl)
           (given_on (allotment.rest_of old.shape (lane_of old.seat) size class stage) (map entry_of did.wrote.added)
           asks (λ got. give (law_allotted s name got)) (Ok (record { root = root; region = region }))
-          (read_on (New root region) did))
+          (read_on (Done (New root region)) did))
           turn concludes
 
-      module _ (new : Context) (allots : Allots) (reply : Reply) (unstopped : before_stop (reply ∷ []) ≡ 1)
-          (empty : allotment.hand_after allots ≡ empty_hand)
-          (none : (root : RootId) → allotment.born_in allots root ≡ 0)
-          (left : allotment.left_after allots ≡ notes_alone 0)
-          (some : (log : List Note) → allotment.IsTriedAgain pool old.seat mid.seat size class stage allots log
+      module _ (new : Context) (came : StageStep AllotStage Allotted) (reply : Reply)
+          (unstopped : before_stop (reply ∷ []) ≡ 1)
+          (empty : allotment.hand_after came ≡ empty_hand)
+          (none : (root : RootId) → allotment.born_in came root ≡ 0)
+          (left : allotment.left_after came ≡ notes_alone 0)
+          (some : (log : List Note) → allotment.IsTriedAgain pool old.seat mid.seat size class stage came log
           → 0 < length log)
-          (rest_is : allotment.rest_after old.shape (lane_of old.seat) size class allots ≡ give (Err reply))
+          (rest_is : allotment.rest_after old.shape (lane_of old.seat) size class came ≡ give (Err reply))
           (did : allotment.HasAllotted pool old.seat mid.seat old.sampler mid.sampler old.notes mid.notes size class
-          stage allots) where
+          stage came) where
         -- it was refused
         pub allot_refused : (turn : Turn) → Concludes mid new reply turn
             → HasTurned pool old new s command (Allotting name size class stage) turn
         allot_refused turn concludes =
-            let after : Hand = allotment.hand_after allots in let gain = allotment.born_in allots in let st =
-            allotted allots did in let asks = allotment.asks_of stage in
+            let after : Hand = allotment.hand_after came in let gain = allotment.born_in came in let st =
+            allotted came did in let asks = allotment.asks_of stage in
             let names_are = staged_names pool (allotment.hand_of stage) after old allot_start mid did.wrote.added gain
             st in
             let counts_are = staged_counts pool (allotment.hand_of stage) after old allot_start mid did.wrote.added gain
@@ -278,5 +283,5 @@ module _ (pool : SharedPool) (old mid : Context) (name size class : ℕ) (stage 
             (given_on (allotment.rest_of old.shape (lane_of old.seat) size class stage) (map entry_of did.wrote.added)
             asks (λ got. give (law_allotted s name got)) (Err reply)
             (subst (λ r. ReadsOn (allotment.rest_of old.shape (lane_of old.seat) size class stage)
-            (map entry_of did.wrote.added) asks r) rest_is (read_on allots did)))
+            (map entry_of did.wrote.added) asks r) rest_is (read_on came did)))
             turn concludes

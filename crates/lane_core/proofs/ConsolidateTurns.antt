@@ -28,8 +28,10 @@ use Rattle.shared_pool.specs.SeatLanes.{lane_of}
 use Rattle.seat_work.specs.Changes.{one_for}
 use Rattle.seat_work.specs.Hands.{Hand, empty_hand}
 use Rattle.seat_work.proofs.Counting.{one_self}
-use Rattle.lane_core.specs.declared.allotment.Allots.{Allots}
-use Rattle.lane_core.specs.declared.allotment.Allots.TheVariants.{More, Held as AllotHeld, New}
+use Rattle.lane_core.specs.declared.allotment.Allotted.{Allotted}
+use Rattle.lane_core.specs.declared.allotment.Allotted.TheVariants.{New}
+use Rattle.lane_core.specs.declared.stage_step.StageStep.{StageStep}
+use Rattle.lane_core.specs.declared.stage_step.StageStep.TheVariants.{More, Held as AllotHeld, Done}
 use Rattle.lane_core.specs.declared.allotment.Allotting.{Allotting as AllotStage}
 use Rattle.lane_core.specs.declared.copying.Copying.TheVariants.{Get as CopyGet}
 use Rattle.lane_core.specs.declared.copying.Transfer.{Transfer}
@@ -93,10 +95,10 @@ module _ (pool : SharedPool) (old mid : Context) (p : Consolidation) (stage : Al
   abbrev rest : AllotStage → Reader (Result LawNew Reply)
   rest at = allotment.rest_of old.shape lane p.size p.class at
 
-  abbrev Did : Allots → Type 0
-  Did allots =
+  abbrev Did : StageStep AllotStage Allotted → Type 0
+  Did came =
       allotment.HasAllotted pool old.seat mid.seat old.sampler mid.sampler old.notes mid.notes p.size p.class stage
-      allots
+      came
 
   module _ (es : List Entry) (more : HasMore (view_of old.seat) (view_of mid.seat) es) where
     candidate_still : IsCandidate mid p.name c
@@ -194,21 +196,22 @@ module _ (pool : SharedPool) (old mid : Context) (p : Consolidation) (stage : Al
         }
 
     -- it was refused
-    module _ (new : Context) (allots : Allots) (reply : Reply) (unstopped : before_stop (reply ∷ []) ≡ 1)
-        (empty : allotment.hand_after allots ≡ empty_hand)
-        (none : (root : RootId) → allotment.born_in allots root ≡ 0)
-        (left : allotment.left_after allots ≡ notes_alone 0)
-        (some : (log : List Note) → allotment.IsTriedAgain pool old.seat mid.seat p.size p.class stage allots log
+    module _ (new : Context) (came : StageStep AllotStage Allotted) (reply : Reply)
+        (unstopped : before_stop (reply ∷ []) ≡ 1)
+        (empty : allotment.hand_after came ≡ empty_hand)
+        (none : (root : RootId) → allotment.born_in came root ≡ 0)
+        (left : allotment.left_after came ≡ notes_alone 0)
+        (some : (log : List Note) → allotment.IsTriedAgain pool old.seat mid.seat p.size p.class stage came log
         → 0 < length log)
-        (rest_is : allotment.rest_after old.shape lane p.size p.class allots ≡ give (Err reply))
-        (did : Did allots) where
+        (rest_is : allotment.rest_after old.shape lane p.size p.class came ≡ give (Err reply))
+        (did : Did came) where
       pub consolidate_refused : (turn : Turn) → Concludes mid new reply turn
           → HasTurned pool old new s command (Consolidating p stage) turn
       consolidate_refused turn concludes =
-          let before : Hand = allotment.hand_of stage in let after : Hand = allotment.hand_after allots in
-          let gain = allotment.born_in allots in let asks = allotment.asks_of stage in
+          let before : Hand = allotment.hand_of stage in let after : Hand = allotment.hand_after came in
+          let gain = allotment.born_in came in let asks = allotment.asks_of stage in
           let es = did.wrote.added in let few = did.asked old.asked in
-          let st = allotted pool old mid p.name p.size p.class stage d is.class mid_so allots did in
+          let st = allotted pool old mid p.name p.size p.class stage d is.class mid_so came did in
           let names_are = staged_names pool before after old start mid es gain st in
           let counts_are = staged_counts pool before after old start mid es gain st in
           let spent : Spends (view_of old.seat) (view_of mid.seat) (allotment.left_of stage) (notes_alone 0) =
@@ -226,10 +229,10 @@ module _ (pool : SharedPool) (old mid : Context) (p : Consolidation) (stage : Al
           (given_on (rest stage >>= made_by) (map entry_of es) asks composes (Err reply)
           (given_on (rest stage) (map entry_of es) asks made_by (Err reply)
           (subst (λ r. ReadsOn (rest stage) (map entry_of es) asks r) rest_is
-          (read_on pool old mid p.name p.size p.class stage d is.class mid_so allots did)))) turn concludes
+          (read_on pool old mid p.name p.size p.class stage d is.class mid_so came did)))) turn concludes
 
     -- a root was born, and is counted
-    module _ (root : RootId) (region : RegionId) (did : Did (New root region)) (cs : List Counted)
+    module _ (root : RootId) (region : RegionId) (did : Did (Done (New root region))) (cs : List Counted)
         (more : CountsMore mid.counts cs root) where
       abbrev es : List Entry
       es = did.wrote.added
@@ -251,7 +254,7 @@ module _ (pool : SharedPool) (old mid : Context) (p : Consolidation) (stage : Al
       made_grew : ContextGrew pool empty_hand old made es
       made_grew =
           let before : Hand = allotment.hand_of stage in
-          let st = allotted pool old mid p.name p.size p.class stage d is.class mid_so (New root region) did in
+          let st = allotted pool old mid p.name p.size p.class stage d is.class mid_so (Done (New root region)) did in
           let adv = staged pool before empty_hand old start mid es (one_for root) st in
           let spent = (view_of old.seat).moves in
           grew pool before empty_hand old start mid d refl es spent adv st.noted made refl
@@ -313,7 +316,7 @@ module _ (pool : SharedPool) (old mid : Context) (p : Consolidation) (stage : Al
           (then_on (rest stage >>= made_by) (map entry_of es) asks composes
           (made_by (Ok (record { root = root; region = region })))
           (given_on (rest stage) (map entry_of es) asks made_by (Ok (record { root = root; region = region }))
-          (read_on pool old mid p.name p.size p.class stage d is.class mid_so (New root region) did))))
+          (read_on pool old mid p.name p.size p.class stage d is.class mid_so (Done (New root region)) did))))
 
       made_on : (next : Stage) → ((log : Log) → follows log ≡ reads_of next log)
           → GoesOn old made es (reads_of (Consolidating p stage))

@@ -29,7 +29,7 @@ sampled_append first mid last (At o k n ∷ xs) ys a b =
 sampled_append first mid last (Ref r d ∷ xs) ys a b = sampled_append first mid last xs ys a b
 sampled_append first mid last (Busy h ∷ xs) ys a b = sampled_append first mid last xs ys a b
 
--- what a step of a desk's seat came to: these entries more, and this in hand
+-- what a step of a lane context's seat came to: these entries more, and this in hand
 pub record Advances (pool : SharedPool) (old new : PoolSeat) (after : Hand) (added : List Entry)
     (spent : ℕ) : Type 0 where
   pub same : SameSeat old new
@@ -108,7 +108,7 @@ pub entries_more : (old new : Context) (added : List Entry) → notes_of new ≡
     → entries_of new ≡ entries_of old ++ map entry_of added
 entries_more old new added more = ap (map entry_of) more ∙ map-append entry_of (notes_of old) added
 
--- what is read over them goes from the one desk's log to the other's
+-- what is read over them goes from the one lane context's log to the other's
 pub reads_at : (old new : Context) (es : ToldNotes) (asks : ℕ → ℕ) → entries_of new ≡ entries_of old ++ es
     → new.asked ≡ asks old.asked → {A : Type 0} (before after : Reader A) → ReadsOn before es asks after →
     (rest : ToldNotes) → before (log_of old (es ++ rest)) ≡ after (log_of new rest)

@@ -28,8 +28,8 @@ use Rattle.seat_work.specs.Hands.{empty_hand, IsHeld}
 use Rattle.seat_work.proofs.Accesses.{IsQuiet, set_quiet, get_quiet}
 use Rattle.lane_core.specs.declared.copying.Copying.{Copying}
 use Rattle.lane_core.specs.declared.copying.Copying.TheVariants.{Get, Set}
-use Rattle.lane_core.specs.declared.copying.Copies.{Copies}
-use Rattle.lane_core.specs.declared.copying.Copies.TheVariants.{More, Held as HeldBack, Done}
+use Rattle.lane_core.specs.declared.stage_step.StageStep.{StageStep}
+use Rattle.lane_core.specs.declared.stage_step.StageStep.TheVariants.{More, Held as HeldBack, Done}
 use Rattle.lane_core.specs.declared.copying.Transfer.{Transfer}
 use Rattle.lane_core.specs.Budgets.{notes_alone, Spends}
 use Rattle.lane_core.specs.Copyings.{MayCopy, HasCopied, IsWithin, IsTriedAgain, Fits, FitsAfter, parts_of, left_of, left_after, rest_of, rest_after}
@@ -90,7 +90,8 @@ module _ (pool : SharedPool) (old new : PoolSeat) (is : IsPoolSeat pool new)
   w = view_of new
 
   -- a part was got or set, and this is what came of it
-  module _ (stage : Copying) (after : Copies) (may : MayCopy pool old stage) (r : RootId) (has : HasCount r v)
+  module _ (stage : Copying) (after : StageStep Copying (Unit {0})) (may : MayCopy pool old stage) (r : RootId)
+      (has : HasCount r v)
       (number : ℕ) (did : Did) (quiet : IsQuiet r number v.own.number did)
       (did_is : IsAccessDid r number v.own.number did)
       (noted : IsNoted pool old new (Root r.place) number (access r did)) (note : Note)
@@ -190,7 +191,8 @@ module _ (pool : SharedPool) (old new : PoolSeat) (is : IsPoolSeat pool new)
         (λ _. copies root (at + length bytes.items) left.items) tt
         (read_set_at set_entry root number at (same_root-refl root) bytes.items refl)
 
-    was_set : (after : Copies) → ReadsOn (rest_of (Set root at bytes left)) (set_entry ∷ []) none_asked
+    was_set : (after : StageStep Copying (Unit {0}))
+        → ReadsOn (rest_of (Set root at bytes left)) (set_entry ∷ []) none_asked
         (rest_after after) → FitsAfter w after → IsTriedAgain pool old new (Set root at bytes left) after (note ∷ []) →
         Spends v w (left_of (Set root at bytes left)) (left_after after)
         → HasCopied pool old new log later (Set root at bytes left) after
@@ -222,9 +224,9 @@ module _ (pool : SharedPool) (old new : PoolSeat) (is : IsPoolSeat pool new)
           omega (arith, behind_is, size, enough),
         ) (omega arith) (set_spent (2 + 2 * length rest.items) (omega (arith, long)))
 
-    pub copy_done : left.items ≡ [] → HasCopied pool old new log later (Set root at bytes left) Done
+    pub copy_done : left.items ≡ [] → HasCopied pool old new log later (Set root at bytes left) (Done tt)
     copy_done none =
-        was_set Done
+        was_set (Done tt)
         (subst (λ (xs : List Transfer). ReadsOn (rest_of (Set root at bytes left)) (set_entry ∷ []) none_asked
         (copies root (at + length bytes.items) xs)) none set_read) tt (omega arith) (set_spent 0 (omega arith))
 

@@ -18,8 +18,8 @@ use Rattle.shared_pool.specs.SeatLanes.{lane_of}
 use Rattle.seat_work.specs.Hands.{empty_hand}
 use Rattle.lane_core.specs.declared.copying.Copying.{Copying as CopyStage}
 use Rattle.lane_core.specs.declared.copying.Copying.TheVariants.{Get, Set}
-use Rattle.lane_core.specs.declared.copying.Copies.{Copies}
-use Rattle.lane_core.specs.declared.copying.Copies.TheVariants.{More, Held as HeldBack, Done}
+use Rattle.lane_core.specs.declared.stage_step.StageStep.{StageStep}
+use Rattle.lane_core.specs.declared.stage_step.StageStep.TheVariants.{More, Held as HeldBack, Done}
 use Rattle.lane_core.specs.declared.counts.Counted.{Counted}
 use Rattle.lane_core.specs.declared.context.Context.{Context}
 use Rattle.lane_core.specs.declared.context.Stage.TheVariants.{Copying, Replacing}
@@ -76,7 +76,7 @@ all_left parts = record { ending = None; left = parts }
 module _ (pool : SharedPool) (old mid : Context) (stage : CopyStage) (d : IsContext pool empty_hand old)
     (mid_is : mid ≡ record old { seat = mid.seat; counts = mid.counts; notes = mid.notes })
     (kept : mid.counts ≡ old.counts) where
-  module _ (result : Copies)
+  module _ (result : StageStep CopyStage (Unit {0}))
       (did : copying.HasCopied pool old.seat mid.seat old.notes mid.notes stage result) where
     abbrev wrote : Wrote pool old.seat mid.seat did.written old.sampler old.sampler (copying.rest_of stage) none_asked
         (copying.rest_after result)
@@ -130,7 +130,8 @@ module _ (pool : SharedPool) (old mid : Context) (stage : CopyStage) (d : IsCont
     some_still : AreUncounted mid.counts parts.items → ⊥
     some_still = subst (λ (cs : List Counted). AreUncounted cs parts.items → ⊥) (sym kept) some
 
-    copy_spends : (result : Copies) → copying.HasCopied pool old.seat mid.seat old.notes mid.notes stage result
+    copy_spends : (result : StageStep CopyStage (Unit {0}))
+        → copying.HasCopied pool old.seat mid.seat old.notes mid.notes stage result
         → Spends (view_of old.seat) (view_of mid.seat) (with_parts 0 count_parts (copying.left_of stage))
         (with_parts 0 count_parts (copying.left_after result))
     copy_spends result did =
@@ -195,11 +196,11 @@ module _ (pool : SharedPool) (old mid : Context) (stage : CopyStage) (d : IsCont
         }
 
     -- all are copied, and are to be released
-    copy_ends : copying.HasCopied pool old.seat mid.seat old.notes mid.notes stage Done
+    copy_ends : copying.HasCopied pool old.seat mid.seat old.notes mid.notes stage (Done tt)
         → HasTurned pool old mid s command (Copying name whole parts stage)
         (Went (Replacing name whole (all_left parts)))
     copy_ends did =
-        let m = copied_so Done did in let w = wrote Done did in let a = asked_same in
+        let m = copied_so (Done tt) did in let w = wrote (Done tt) did in let a = asked_same in
         record {
           added = w.added;
           grew = moved_grew pool empty_hand empty_hand old mid w.added m;
@@ -219,13 +220,13 @@ module _ (pool : SharedPool) (old mid : Context) (stage : CopyStage) (d : IsCont
               (copies_at stage)
               (λ names. reads_from old.shape lane (renamed s names) command
               (Replacing name whole (all_left parts))) s.names are
-              (λ rest. ap behind_copy (copied_read Done did rest));
+              (λ rest. ap behind_copy (copied_read (Done tt) did rest));
           waits = tt;
           held = tt;
         }
 
     pub copy_done : (next : Releasing) → next.ending ≡ None → next.left ≡ parts
-        → copying.HasCopied pool old.seat mid.seat old.notes mid.notes stage Done
+        → copying.HasCopied pool old.seat mid.seat old.notes mid.notes stage (Done tt)
         → HasTurned pool old mid s command (Copying name whole parts stage) (Went (Replacing name whole next))
     copy_done next none left did =
         subst (λ (x : Releasing). HasTurned pool old mid s command (Copying name whole parts stage)

@@ -26,8 +26,10 @@ use Rattle.seat_work.specs.Hands.{empty_hand, IsHeld}
 use Rattle.seat_work.proofs.Accesses.{IsQuiet, set_quiet, get_quiet}
 use Rattle.lane_core.specs.declared.crossing.Crossing.{Crossing}
 use Rattle.lane_core.specs.declared.crossing.Crossing.TheVariants.{Set, Get}
-use Rattle.lane_core.specs.declared.crossing.Crosses.{Crosses}
-use Rattle.lane_core.specs.declared.crossing.Crosses.TheVariants.{More, Held as HeldBack, WasSet, WasGot}
+use Rattle.lane_core.specs.declared.crossing.Crossed.{Crossed}
+use Rattle.lane_core.specs.declared.crossing.Crossed.TheVariants.{Set as WasSet, Got as WasGot}
+use Rattle.lane_core.specs.declared.stage_step.StageStep.{StageStep}
+use Rattle.lane_core.specs.declared.stage_step.StageStep.TheVariants.{More, Held as HeldBack, Done}
 use Rattle.lane_core.specs.declared.crossing.Stretch.{Stretch}
 use Rattle.lane_core.specs.Budgets.{notes_alone, Spends}
 use Rattle.lane_core.specs.Counting.{CountsAre}
@@ -95,7 +97,8 @@ module _ (pool : SharedPool) (old new : PoolSeat) (is : IsPoolSeat pool new)
   w = view_of new
 
   -- a part was set or got, and this is what came of it
-  module _ (stage : Crossing) (after : Crosses) (may : MayCross pool old stage) (r : RootId) (has : HasCount r v)
+  module _ (stage : Crossing) (after : StageStep Crossing Crossed) (may : MayCross pool old stage) (r : RootId)
+      (has : HasCount r v)
       (number : ℕ) (did : Did) (quiet : IsQuiet r number v.own.number did)
       (did_is : IsAccessDid r number v.own.number did)
       (noted : IsNoted pool old new (Root r.place) number (access r did)) (note : Note)
@@ -146,7 +149,8 @@ module _ (pool : SharedPool) (old new : PoolSeat) (is : IsPoolSeat pool new)
         (set_part_on first.part ps set_entry number (same_root-refl set_root) first.bytes.items rest set_within.bytes
         refl)
 
-    was_set : (after : Crosses) → ReadsOn (rest_of (Set first left)) (set_entry ∷ []) none_asked (rest_after after)
+    was_set : (after : StageStep Crossing Crossed)
+        → ReadsOn (rest_of (Set first left)) (set_entry ∷ []) none_asked (rest_after after)
         → FitsAfter w after → IsAlike (Set first left) after →
         IsTriedAgain pool old new (Set first left) after (note ∷ []) → Spends v w (left_of (Set first left))
         (left_after after)
@@ -178,9 +182,9 @@ module _ (pool : SharedPool) (old new : PoolSeat) (is : IsPoolSeat pool new)
         ) tt (omega arith)
         (set_spent (length (first ∷ left.items)) (length (next ∷ rest.items)) (omega (arith, long)))
 
-    pub set_last : left.items ≡ [] → HasCrossed pool old new log later (Set first left) WasSet
+    pub set_last : left.items ≡ [] → HasCrossed pool old new log later (Set first left) (Done WasSet)
     set_last none =
-        was_set WasSet
+        was_set (Done WasSet)
         (subst (λ (xs : List Stretch). ReadsOn (rest_of (Set first left)) (set_entry ∷ []) none_asked (sets xs)) none
         set_read) tt tt (omega arith) (set_spent (length (first ∷ left.items)) 0 (omega arith))
 
@@ -214,7 +218,8 @@ module _ (pool : SharedPool) (old new : PoolSeat) (is : IsPoolSeat pool new)
         (behind log (get_entry ∷ []) none_asked))
         ∙ ap (λ (xs : List ℕ). gets xs left.items (behind log (get_entry ∷ []) none_asked)) (sym all_is)
 
-    was_got : (after : Crosses) → ReadsOn (rest_of (Get first left got)) (get_entry ∷ []) none_asked (rest_after after)
+    was_got : (after : StageStep Crossing Crossed)
+        → ReadsOn (rest_of (Get first left got)) (get_entry ∷ []) none_asked (rest_after after)
         → FitsAfter w after → IsAlike (Get first left got) after →
         IsTriedAgain pool old new (Get first left got) after (note ∷ []) → Spends v w (left_of (Get first left got))
         (left_after after)
@@ -249,9 +254,9 @@ module _ (pool : SharedPool) (old new : PoolSeat) (is : IsPoolSeat pool new)
         ) tt (omega arith)
         (get_spent (length (first ∷ left.items)) (length (next ∷ rest.items)) (omega (arith, long)))
 
-    pub get_last : left.items ≡ [] → HasCrossed pool old new log later (Get first left got) (WasGot all)
+    pub get_last : left.items ≡ [] → HasCrossed pool old new log later (Get first left got) (Done (WasGot all))
     get_last none =
-        was_got (WasGot all)
+        was_got (Done (WasGot all))
         (λ log.
         subst (λ (xs : List Stretch). ReadsOn (rest_of (Get first left got)) (get_entry ∷ []) none_asked
         (gets all.items xs)) none get_read log

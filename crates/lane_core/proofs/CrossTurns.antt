@@ -22,8 +22,10 @@ use Rattle.lane_core.specs.declared.composed.Marks.{Marks}
 use Rattle.lane_core.specs.declared.counts.Counted.{Counted}
 use Rattle.lane_core.specs.declared.crossing.Crossing.{Crossing as CrossStage}
 use Rattle.lane_core.specs.declared.crossing.Crossing.TheVariants.{Set, Get}
-use Rattle.lane_core.specs.declared.crossing.Crosses.{Crosses}
-use Rattle.lane_core.specs.declared.crossing.Crosses.TheVariants.{More, Held as HeldBack, WasSet, WasGot}
+use Rattle.lane_core.specs.declared.crossing.Crossed.{Crossed}
+use Rattle.lane_core.specs.declared.crossing.Crossed.TheVariants.{Set as WasSet, Got as WasGot}
+use Rattle.lane_core.specs.declared.stage_step.StageStep.{StageStep}
+use Rattle.lane_core.specs.declared.stage_step.StageStep.TheVariants.{More, Held as HeldBack, Done}
 use Rattle.lane_core.specs.declared.crossing.Stretch.{Stretch}
 use Rattle.lane_core.specs.declared.context.Context.{Context}
 use Rattle.lane_core.specs.declared.context.Stage.TheVariants.{Ready, Crossing}
@@ -103,11 +105,11 @@ reply_on (Get first later got) (Get next left more) alike bytes = refl
 reply_on (Get first later got) (Set next left) alike bytes = absurd alike
 
 -- and is this once all parts are set, or got
-set_reply : (stage : CrossStage) → crossing.IsAlike stage WasSet → reply_of stage [] ≡ Reply.Ok
+set_reply : (stage : CrossStage) → crossing.IsAlike stage (Done WasSet) → reply_of stage [] ≡ Reply.Ok
 set_reply (Set first later) alike = refl
 set_reply (Get first later got) alike = absurd alike
 
-got_reply : (stage : CrossStage) (got : Vec ℕ) → crossing.IsAlike stage (WasGot got)
+got_reply : (stage : CrossStage) (got : Vec ℕ) → crossing.IsAlike stage (Done (WasGot got))
     → reply_of stage got.items ≡ Reply.OkBytes got.items
 got_reply (Get first later more) got alike = refl
 got_reply (Set first later) got alike = absurd alike
@@ -115,7 +117,7 @@ got_reply (Set first later) got alike = absurd alike
 module _ (pool : SharedPool) (old mid : Context) (stage : CrossStage) (d : IsContext pool empty_hand old)
     (mid_is : mid ≡ record old { seat = mid.seat; counts = mid.counts; notes = mid.notes })
     (kept : mid.counts ≡ old.counts) where
-  module _ (result : Crosses)
+  module _ (result : StageStep CrossStage Crossed)
       (did : crossing.HasCrossed pool old.seat mid.seat old.notes mid.notes stage result) where
     abbrev wrote : Wrote pool old.seat mid.seat did.written old.sampler old.sampler (crossing.rest_of stage) none_asked
         (crossing.rest_after result)
@@ -241,7 +243,7 @@ module _ (pool : SharedPool) (old mid : Context) (stage : CrossStage) (d : IsCon
         marks_moved =
             subst (λ (names : List (Option Bound)). MarksMoved names spot.names name marks) names_same moves.names
 
-        cross_ends : (result : Crosses) → crossing.left_after result ≡ notes_alone 0
+        cross_ends : (result : StageStep CrossStage Crossed) → crossing.left_after result ≡ notes_alone 0
             → crossing.rest_after result ≡ give bytes
             → crossing.HasCrossed pool old.seat mid.seat old.notes mid.notes stage result
             → HasTurned pool old new s command (Crossing name marks stage) (Went Ready)
@@ -260,18 +262,18 @@ module _ (pool : SharedPool) (old mid : Context) (stage : CrossStage) (d : IsCon
             (subst (λ (x : Context). HasReplied x new reply) moves.rest replied) low
 
       pub cross_was_set : (spot new : Context) → HasMarked mid spot name marks → HasReplied spot new Reply.Ok
-          → crossing.HasCrossed pool old.seat mid.seat old.notes mid.notes stage WasSet
+          → crossing.HasCrossed pool old.seat mid.seat old.notes mid.notes stage (Done WasSet)
           → HasTurned pool old new s command (Crossing name marks stage) (Went Ready)
       cross_was_set spot new moves replied did =
-          cross_ends spot new [] Reply.Ok refl (set_reply stage did.alike) moves replied WasSet refl refl did
+          cross_ends spot new [] Reply.Ok refl (set_reply stage did.alike) moves replied (Done WasSet) refl refl did
 
       pub cross_was_got : (spot new : Context) (got : Vec ℕ) → HasMarked mid spot name marks
           → HasReplied spot new (Reply.OkBytes got.items)
-          → crossing.HasCrossed pool old.seat mid.seat old.notes mid.notes stage (WasGot got)
+          → crossing.HasCrossed pool old.seat mid.seat old.notes mid.notes stage (Done (WasGot got))
           → HasTurned pool old new s command (Crossing name marks stage) (Went Ready)
       cross_was_got spot new got moves replied did =
           cross_ends spot new got.items (Reply.OkBytes got.items) refl (got_reply stage got did.alike) moves replied
-          (WasGot got) refl refl did
+          (Done (WasGot got)) refl refl did
 
 -- ---- What is planned of bytes is begun.
 

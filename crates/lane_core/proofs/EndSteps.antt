@@ -30,7 +30,7 @@ use Rattle.shared_pool.specs.Seats.{IsPoolSeat, IsNoted, FoundBusy}
 use Rattle.lane_core.specs.Logs.{HasWritten}
 use Rattle.lane_core.specs.declared.retirement.Ending.{Ending}
 use Rattle.lane_core.specs.declared.retirement.Ending.TheVariants.{Root as EndRoot, Cache as AskCache, Arena as AskArena, Home}
-use Rattle.lane_core.specs.declared.retirement.Ends.TheVariants.{More, Held as HeldBack, Done}
+use Rattle.lane_core.specs.declared.stage_step.StageStep.TheVariants.{More, Held as HeldBack, Done}
 use Rattle.seat_work.specs.Hands.{empty_hand, IsHeld, IsRegion}
 use Rattle.lane_core.specs.Endings.{MayEnd, HasEnded, Fits, goes_home, hand_of, left_of, left_after, rest_of, rest_after}
 use Rattle.lane_core.proofs.SeatCounts.{none_added, still_added, vacated_added}
@@ -161,7 +161,7 @@ module _ (pool : SharedPool) (old new : PoolSeat) (is : IsPoolSeat pool new)
             }
 
       pub gone_home : MayEnd pool old (Home h) → IsNoted pool old new (Bin h.lane) number (plain (Did.Home h.place))
-          → note ≡ Note.At (Bin h.lane) number (Did.Home h.place) → HasEnded pool old new log later (Home h) Done
+          → note ≡ Note.At (Bin h.lane) number (Did.Home h.place) → HasEnded pool old new log later (Home h) (Done tt)
       gone_home may noted it =
           let o : Object = Bin h.lane in let n : Noted = plain (Did.Home h.place) in let e : Entry =
           note_at pool old new may.seat_is is o number n in
@@ -171,7 +171,7 @@ module _ (pool : SharedPool) (old new : PoolSeat) (is : IsPoolSeat pool new)
             log = adds;
             wrote =
                 λ sampler. wrote_note pool old new may.seat_is is same sampler (rest_of shape (Home h)) none_asked
-                (rest_after shape Done) o number n note noted it (tt, refl)
+                (rest_after shape (Done tt)) o number n note noted it (tt, refl)
                 (read_gone shape h.place number (entry_of e) h.lane may.fits.lane refl);
             hand =
                 held_on v w (e ∷ []) 0 (hand_of (Home h)) empty_hand grows
@@ -182,7 +182,7 @@ module _ (pool : SharedPool) (old new : PoolSeat) (is : IsPoolSeat pool new)
                 λ sampler. still_added (entry_of e)
                 (record { gains = λ q. refl; loses = λ q. refl; needs = λ q. refl; ends = λ q. refl }) refl;
             spends =
-                spends v w (e ∷ []) 0 grows (left_of (Home h)) (left_after Done) (omega arith) (omega arith)
+                spends v w (e ∷ []) 0 grows (left_of (Home h)) (left_after (Done tt)) (omega arith) (omega arith)
                 (omega arith)
                 (λ to. omega arith);
           }

@@ -20,8 +20,8 @@ use Rattle.lane_core.specs.declared.context.Stage.TheVariants.{Ready, Ending}
 use Rattle.lane_core.specs.declared.context.Turn.TheVariants.{Went, Pending}
 use Rattle.lane_core.specs.declared.retirement.Ending.{Ending as EndStage}
 use Rattle.lane_core.specs.declared.retirement.Ending.TheVariants.{Root as EndRoot, Cache as EndCache, Arena as EndArena, Home as EndHome}
-use Rattle.lane_core.specs.declared.retirement.Ends.{Ends}
-use Rattle.lane_core.specs.declared.retirement.Ends.TheVariants.{More as EndMore, Held as EndHeld, Done}
+use Rattle.lane_core.specs.declared.stage_step.StageStep.{StageStep}
+use Rattle.lane_core.specs.declared.stage_step.StageStep.TheVariants.{More, Held as HeldBack, Done}
 use Rattle.lane_core.specs.Endings as ending
 use Rattle.lane_core.specs.Budgets.{Spends, notes_alone}
 use Rattle.lane_core.specs.Counting.{counted}
@@ -51,11 +51,12 @@ module _ (pool : SharedPool) (old mid : Context) (stage : EndStage) (d : IsConte
   abbrev end_start : Context
   end_start = record old { seat = mid.seat }
 
-  module _ (ends : Ends) (did : ending.HasEnded pool old.seat mid.seat old.notes mid.notes stage ends) where
+  module _ (came : StageStep EndStage (Unit {0}))
+      (did : ending.HasEnded pool old.seat mid.seat old.notes mid.notes stage came) where
     abbrev added : List Entry
     added = (did.wrote old.sampler).added
 
-    pub ended_so : Staged pool (ending.hand_of stage) (ending.hand_after ends) old end_start mid added (λ root. 0)
+    pub ended_so : Staged pool (ending.hand_of stage) (ending.hand_after came) old end_start mid added (λ root. 0)
     ended_so = record {
       context = d;
       start_is = refl;
@@ -72,10 +73,10 @@ module _ (pool : SharedPool) (old mid : Context) (stage : EndStage) (d : IsConte
     }
 
     pub ended_read : ReadsOn (ending.rest_of old.shape stage) (map entry_of added) none_asked
-        (ending.rest_after old.shape ends)
+        (ending.rest_after old.shape came)
     ended_read =
         subst (λ (shape : Shape). ReadsOn (ending.rest_of shape stage) (map entry_of added) none_asked
-        (ending.rest_after shape ends)) (sym d.shape) (did.wrote old.sampler).read
+        (ending.rest_after shape came)) (sym d.shape) (did.wrote old.sampler).read
 
   module _ (low : old.asked < sweep_period) (s : LaneState) (command : Command) (are : NamesAre s.names old.names) where
     abbrev ends_at : EndStage → Reader Answer
@@ -91,11 +92,11 @@ module _ (pool : SharedPool) (old mid : Context) (stage : EndStage) (d : IsConte
     none_left next =
         let a = same_asks in let b = no_end_asks next in let c = no_end_asks stage in omega (arith, a, b, c)
 
-    pub end_goes : (next : EndStage) → ending.HasEnded pool old.seat mid.seat old.notes mid.notes stage (EndMore next)
+    pub end_goes : (next : EndStage) → ending.HasEnded pool old.seat mid.seat old.notes mid.notes stage (More next)
         → HasTurned pool old mid s command (Ending stage) (Went (Ending next))
     end_goes next did =
-        let after : Hand = ending.hand_of next in let st = ended_so (EndMore next) did in let es =
-        added (EndMore next) did in
+        let after : Hand = ending.hand_of next in let st = ended_so (More next) did in let es =
+        added (More next) did in
         let seat_is = staged_seat pool (ending.hand_of stage) after old end_start mid es (λ root. 0) st in
         record {
           added = es;
@@ -114,17 +115,17 @@ module _ (pool : SharedPool) (old mid : Context) (stage : EndStage) (d : IsConte
               (then_on (ends_at stage) (map entry_of es) none_asked (swept (lane_of old.seat)) (ends_at next)
               (then_on (ending.rest_of old.shape stage) (map entry_of es) none_asked
               (λ _. give (answer Reply.Freed s.names)) (ending.rest_of old.shape next)
-              (ended_read (EndMore next) did)));
+              (ended_read (More next) did)));
           waits = tt;
           held = tt;
         }
 
     pub end_waits : (held : Held) (next : EndStage)
-        → ending.HasEnded pool old.seat mid.seat old.notes mid.notes stage (EndHeld held next)
+        → ending.HasEnded pool old.seat mid.seat old.notes mid.notes stage (HeldBack held next)
         → HasTurned pool old mid s command (Ending stage) (Pending held (Ending next))
     end_waits held next did =
-        let after : Hand = ending.hand_of next in let st = ended_so (EndHeld held next) did in let es =
-        added (EndHeld held next) did in
+        let after : Hand = ending.hand_of next in let st = ended_so (HeldBack held next) did in let es =
+        added (HeldBack held next) did in
         let seat_is = staged_seat pool (ending.hand_of stage) after old end_start mid es (λ root. 0) st in
         record {
           added = es;
@@ -150,10 +151,10 @@ module _ (pool : SharedPool) (old mid : Context) (stage : EndStage) (d : IsConte
           );
         }
 
-    pub end_done : (new : Context) → ending.HasEnded pool old.seat mid.seat old.notes mid.notes stage Done
+    pub end_done : (new : Context) → ending.HasEnded pool old.seat mid.seat old.notes mid.notes stage (Done tt)
         → HasReplied mid new Reply.Freed → HasTurned pool old new s command (Ending stage) (Went Ready)
     end_done new did replied =
-        let st = ended_so Done did in let es = added Done did in
+        let st = ended_so (Done tt) did in let es = added (Done tt) did in
         let names_are = staged_names pool (ending.hand_of stage) empty_hand old end_start mid es (λ root. 0) st in
         let counts_are = staged_counts pool (ending.hand_of stage) empty_hand old end_start mid es (λ root. 0) st in
         let final : Context = record old {
@@ -177,4 +178,4 @@ module _ (pool : SharedPool) (old mid : Context) (stage : EndStage) (d : IsConte
         (view_of old.seat).moves (staged pool (ending.hand_of stage) empty_hand old end_start mid es (λ root. 0) st)
         st.noted new mid.names mid.counts Reply.Freed replied none_asked refl low (ends_at stage) s.names
         (given_on (ending.rest_of old.shape stage) (map entry_of es) none_asked (λ _. give (answer Reply.Freed s.names))
-        tt (ended_read Done did)))
+        tt (ended_read (Done tt) did)))

@@ -29,7 +29,8 @@ use Rattle.shared_pool.specs.SeatViews.{view_of, SameSeat}
 use Rattle.shared_pool.specs.Seats.{IsPoolSeat, IsNoted, FoundBusy}
 use Rattle.seat_work.specs.Hands.{empty_hand}
 use Rattle.lane_core.specs.declared.growing.Growing.TheVariants.{Room, Cache, Arena, Grow}
-use Rattle.lane_core.specs.declared.growing.Grows.TheVariants.{More, Done, Full}
+use Rattle.lane_core.specs.declared.growing.Regrown.TheVariants.{Has, Full}
+use Rattle.lane_core.specs.declared.stage_step.StageStep.TheVariants.{More, Done}
 use Rattle.lane_core.specs.Growings.{MayGrow, HasGrown, left_of, left_after, obtaining}
 use Rattle.lane_core.specs.Logs.{HasWritten}
 use Rattle.lane_core.specs.Readings.{behind, none_asked}
@@ -73,28 +74,28 @@ module _ (pool : SharedPool) (old new : PoolSeat) (root : RootId) (size class : 
         made.0 made.1
 
     pub room_enough : (k : ℕ) → AsksFor (Did.Room size k) → size ≤ k → KnowsOf pool new root k
-        → HasGrown pool old new log later root size class Room (Done k)
+        → HasGrown pool old new log later root size class Room (Done (Has k))
     room_enough k made le knows =
         let e = asked (Did.Room size k) in let adds = told k made in
-        went pool old new root size class is same Room (Done k) may e log later adds
+        went pool old new root size class is same Room (Done (Has k)) may e log later adds
         (read_enough shape lane class size number root (entry_of e) (same_root-refl root) class_is k le refl)
         (root_asked lane number v.own.number empty_hand root size k) (known_now pool new root size k le knows)
         (omega arith)
-        (spends v w (e ∷ []) 0 adds.grows (left_of Room) (left_after (Done k)) (omega arith) (omega arith)
+        (spends v w (e ∷ []) 0 adds.grows (left_of Room) (left_after (Done (Has k))) (omega arith) (omega arith)
         (omega arith) (λ to. omega arith))
         (λ n. omega arith)
 
     pub room_extended : AsksFor (Did.Extend size) → KnowsOf pool new root size
-        → HasGrown pool old new log later root size class Room (Done size)
+        → HasGrown pool old new log later root size class Room (Done (Has size))
     room_extended made knows =
         let e = asked (Did.Extend size) in
         let adds = adds_root pool old new may.seat_is is number note log later wrote root (Did.Extend size) None refl
         may.fits made.0 made.1 in
-        went pool old new root size class is same Room (Done size) may e log later adds
+        went pool old new root size class is same Room (Done (Has size)) may e log later adds
         (read_extended shape lane class size number root (entry_of e) (same_root-refl root) class_is refl)
         (root_extended lane number v.own.number empty_hand root size)
         (known_now pool new root size size (omega arith) knows) (omega arith)
-        (spends v w (e ∷ []) 0 adds.grows (left_of Room) (left_after (Done size)) (omega arith) (omega arith)
+        (spends v w (e ∷ []) 0 adds.grows (left_of Room) (left_after (Done (Has size))) (omega arith) (omega arith)
         (omega arith) (λ to. omega arith))
         (λ n. omega arith)
 
@@ -201,14 +202,14 @@ module _ (pool : SharedPool) (old new : PoolSeat) (root : RootId) (size class : 
 
     pub arena_was_full : IsNoted pool old new arena number (plain (Did.Full class))
         → note ≡ Note.At arena number (Did.Full class)
-        → HasGrown pool old new log later root size class Arena Full
+        → HasGrown pool old new log later root size class Arena (Done Full)
     arena_was_full noted it =
         let e = plain_entry pool old new may.seat_is is number note log later wrote arena (Did.Full class) in
         let adds = adds_plain pool old new may.seat_is is number note log later wrote arena (Did.Full class) refl noted
         it in
-        went pool old new root size class is same Arena Full may e log later adds
+        went pool old new root size class is same Arena (Done Full) may e log later adds
         (full_on shape lane class number (entry_of e) (grow_with root size) refl)
         (arena_full lane number v.own.number empty_hand (lane % shape.arenas) class) tt (omega arith)
-        (spends v w (e ∷ []) 0 adds.grows (left_of Arena) (left_after Full) (omega arith) (omega arith)
+        (spends v w (e ∷ []) 0 adds.grows (left_of Arena) (left_after (Done Full)) (omega arith) (omega arith)
         (omega arith) (λ to. omega arith))
         (λ n. omega arith)

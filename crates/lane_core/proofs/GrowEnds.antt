@@ -31,7 +31,8 @@ use Rattle.shared_pool.specs.Seats.{IsPoolSeat, IsNoted, FoundBusy}
 use Rattle.seat_work.specs.Hands.{Hand, empty_hand, IsRegion}
 use Rattle.seat_work.proofs.HandLaws.{Carries}
 use Rattle.lane_core.specs.declared.growing.Growing.TheVariants.{Grow, Put, Give}
-use Rattle.lane_core.specs.declared.growing.Grows.TheVariants.{More, Done}
+use Rattle.lane_core.specs.declared.growing.Regrown.TheVariants.{Has}
+use Rattle.lane_core.specs.declared.stage_step.StageStep.TheVariants.{More, Done}
 use Rattle.lane_core.specs.Allotments.{left_with}
 use Rattle.lane_core.specs.Budgets.{Spends}
 use Rattle.lane_core.specs.Growings.{MayGrow, HasGrown, Knows, hand_of, left_of, left_after, leaving}
@@ -146,17 +147,17 @@ module _ (pool : SharedPool) (old new : PoolSeat) (root : RootId) (size class : 
       module _ (number : ℕ) (note : Note) (log later : Vec Note) (wrote : HasWritten log later (note ∷ [])) where
         pub kept_there : IsNoted pool old new cache number (plain (Did.Kept r.id))
             → note ≡ Note.At cache number (Did.Kept r.id)
-            → HasGrown pool old new log later root size class (Put k r) (Done k)
+            → HasGrown pool old new log later root size class (Put k r) (Done (Has k))
         kept_there noted it =
             let e = plain_entry pool old new may.seat_is is number note log later wrote cache (Did.Kept r.id) in
             let adds = adds_plain pool old new may.seat_is is number note log later wrote cache (Did.Kept r.id) refl
             noted it in
-            went pool old new root size class is same (Put k r) (Done k) may e log later adds
+            went pool old new root size class is same (Put k r) (Done (Has k)) may e log later adds
             (kept_on number (entry_of e) (give (Ok k)) r.id may.fits.1 refl)
             (region_kept lane number v.own.number empty_hand r.id.owner r.id.class r.id)
             (known_still v w e log later adds root size k (omega arith) may.fits.2) (omega arith)
-            (spends v w (e ∷ []) 0 adds.grows (left_of (Put k r)) (left_after (Done k)) (omega arith) (omega arith)
-            (omega arith) (λ to. omega arith))
+            (spends v w (e ∷ []) 0 adds.grows (left_of (Put k r)) (left_after (Done (Has k))) (omega arith)
+            (omega arith) (omega arith) (λ to. omega arith))
             (λ n. omega arith)
 
         pub came_back : (why : CacheNo) → IsNoted pool old new cache number (plain (Did.Back r.id why))
@@ -195,15 +196,15 @@ module _ (pool : SharedPool) (old new : PoolSeat) (root : RootId) (size class : 
         (log later : Vec Note) → HasWritten log later (note ∷ [])
         → IsNoted pool old new (object.Arena r.id.place.arena) number (plain (Did.Give r.id))
         → note ≡ Note.At (object.Arena r.id.place.arena) number (Did.Give r.id)
-        → HasGrown pool old new log later root size class (Give k r) (Done k)
+        → HasGrown pool old new log later root size class (Give k r) (Done (Has k))
     given_back may number note log later wrote noted it =
         let o = object.Arena r.id.place.arena in
         let e = plain_entry pool old new may.seat_is is number note log later wrote o (Did.Give r.id) in
         let adds = adds_plain pool old new may.seat_is is number note log later wrote o (Did.Give r.id) refl noted it in
-        went pool old new root size class is same (Give k r) (Done k) may e log later adds
+        went pool old new root size class is same (Give k r) (Done (Has k)) may e log later adds
         (given_behind number (entry_of e) (give (Ok k)) r.id refl)
         (region_given lane number v.own.number empty_hand r.id.place.arena r.id)
         (known_still v w e log later adds root size k (omega arith) may.fits.1) (omega arith)
-        (spends v w (e ∷ []) 0 adds.grows (left_of (Give k r)) (left_after (Done k)) (omega arith) (omega arith)
+        (spends v w (e ∷ []) 0 adds.grows (left_of (Give k r)) (left_after (Done (Has k))) (omega arith) (omega arith)
         (omega arith) (λ to. omega arith))
         (λ n. omega arith)

@@ -37,8 +37,9 @@ use Rattle.seat_work.proofs.Holds.{region_stays}
 use Rattle.lane_core.specs.declared.counts.Counted.{Counted}
 use Rattle.lane_core.specs.declared.growing.Growing.{Growing}
 use Rattle.lane_core.specs.declared.growing.Growing.TheVariants.{Room, Cache, Arena, Grow, Put, Give}
-use Rattle.lane_core.specs.declared.growing.Grows.{Grows}
-use Rattle.lane_core.specs.declared.growing.Grows.TheVariants.{Held as HeldBack}
+use Rattle.lane_core.specs.declared.growing.Regrown.{Regrown}
+use Rattle.lane_core.specs.declared.stage_step.StageStep.{StageStep}
+use Rattle.lane_core.specs.declared.stage_step.StageStep.TheVariants.{Held as HeldBack}
 use Rattle.lane_core.specs.Budgets.{Spends}
 use Rattle.lane_core.specs.Counting.{CountsAre}
 use Rattle.lane_core.specs.Growings.{MayGrow, HasGrown, Fits, FitsAfter, IsTriedAgain, Knows, asks_of, hand_of, hand_after, left_of, left_after, rest_of, rest_after}
@@ -158,7 +159,8 @@ module _ (pool : SharedPool) (old new : PoolSeat) (root : RootId) (size class : 
   lane = lane_of old
 
   -- one entry was added
-  module _ (stage : Growing) (after : Grows) (may : MayGrow pool old root size class stage) (e : Entry)
+  module _ (stage : Growing) (after : StageStep Growing Regrown) (may : MayGrow pool old root size class stage)
+      (e : Entry)
       (log later : Vec Note) (adds : Adds (view_of old) (view_of new) e log later) where
     -- the list of counts is right still
     counts_on : (cs : List Counted) → CountsAre cs (map entry_of (view_of old).own.notes)

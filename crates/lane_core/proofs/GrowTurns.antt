@@ -35,8 +35,10 @@ use Rattle.lane_core.specs.declared.context.Turn.{Turn}
 use Rattle.lane_core.specs.declared.context.Turn.TheVariants.{Went, Pending}
 use Rattle.lane_core.specs.declared.growing.Growing.{Growing as GrowStage}
 use Rattle.lane_core.specs.declared.growing.Growing.TheVariants as at
-use Rattle.lane_core.specs.declared.growing.Grows.{Grows}
-use Rattle.lane_core.specs.declared.growing.Grows.TheVariants.{More, Held as GrowHeld, Done, Full}
+use Rattle.lane_core.specs.declared.growing.Regrown.{Regrown}
+use Rattle.lane_core.specs.declared.growing.Regrown.TheVariants.{Has, Full}
+use Rattle.lane_core.specs.declared.stage_step.StageStep.{StageStep}
+use Rattle.lane_core.specs.declared.stage_step.StageStep.TheVariants.{More, Held as GrowHeld, Done}
 use Rattle.lane_core.specs.Accesses.{IsRefused, IsState, reply_for}
 use Rattle.lane_core.specs.Budgets.{Left, Spends, notes_alone}
 use Rattle.lane_core.specs.Counting.{CountsAre, counted}
@@ -106,8 +108,8 @@ module _ (pool : SharedPool) (old mid : Context) (name : ℕ) (v : View) (size c
   abbrev start : Context
   start = record old { seat = mid.seat; asked = asks old.asked }
 
-  abbrev Did : Grows → Type 0
-  Did grows = growing.HasGrown pool old.seat mid.seat old.notes mid.notes root size class stage grows
+  abbrev Did : StageStep GrowStage Regrown → Type 0
+  Did came = growing.HasGrown pool old.seat mid.seat old.notes mid.notes root size class stage came
 
   -- counts that are the same are those of the log
   same_counts : (cs : List Counted) → ((r : RootId) → counted cs r ≡ counted old.counts r + 0)
@@ -120,10 +122,10 @@ module _ (pool : SharedPool) (old mid : Context) (name : ℕ) (v : View) (size c
   names_same : mid.names ≡ old.names
   names_same = ap (λ (x : Context). x.names) mid_so
 
-  module _ (grows : Grows) (did : Did grows) where
+  module _ (came : StageStep GrowStage Regrown) (did : Did came) where
     abbrev wrote : Wrote pool old.seat mid.seat did.written old.sampler old.sampler
         (growing.rest_of pool.table.layout.shape (lane_of old.seat) root size class stage) asks
-        (growing.rest_after pool.table.layout.shape (lane_of old.seat) root size class grows)
+        (growing.rest_after pool.table.layout.shape (lane_of old.seat) root size class came)
     wrote = did.wrote old.sampler
 
     abbrev es : List Entry
@@ -135,7 +137,7 @@ module _ (pool : SharedPool) (old mid : Context) (name : ℕ) (v : View) (size c
         recounts_between old.counts cs (entries_of old) (map entry_of es) d.counts
         (subst (CountsAre cs) (entries_more old start es wrote.more.notes) (did.counts cs (same_counts cs same)))
 
-    grown_so : Staged pool before (growing.hand_after grows) old start mid es (λ r. 0)
+    grown_so : Staged pool before (growing.hand_after came) old start mid es (λ r. 0)
     grown_so = record {
       context = d;
       start_is = refl;
@@ -150,10 +152,10 @@ module _ (pool : SharedPool) (old mid : Context) (name : ℕ) (v : View) (size c
     }
 
     read_on : ReadsOn (growing.rest_of old.shape (lane_of old.seat) root size class stage) (map entry_of es) asks
-        (growing.rest_after old.shape (lane_of old.seat) root size class grows)
+        (growing.rest_after old.shape (lane_of old.seat) root size class came)
     read_on =
         subst (λ (shape : Shape). ReadsOn (growing.rest_of shape (lane_of old.seat) root size class stage)
-        (map entry_of es) asks (growing.rest_after shape (lane_of old.seat) root size class grows)) (sym d.shape)
+        (map entry_of es) asks (growing.rest_after shape (lane_of old.seat) root size class came)) (sym d.shape)
         wrote.read
 
     -- what is known only grew
@@ -164,8 +166,8 @@ module _ (pool : SharedPool) (old mid : Context) (name : ℕ) (v : View) (size c
     pub grow_can : HasRoomFor pool old (growing.left_of stage) → length old.replies.items < vec_capacity old.replies
         → CanAnswer mid
     grow_can room replies =
-        answers_behind pool before old d (growing.left_of stage) (growing.left_after grows) room (view_of mid.seat) es
-        did.written wrote.more wrote.noted did.spends start mid refl
+        answers_behind pool before old d (growing.left_of stage) (growing.left_after came) room
+        (view_of mid.seat) es did.written wrote.more wrote.noted did.spends start mid refl
         (noted_so start mid did.written did.log mid_so) replies
 
   module _ (bound : bound_at old.names name ≡ Some (Plain v.at)) where
@@ -179,9 +181,10 @@ module _ (pool : SharedPool) (old mid : Context) (name : ℕ) (v : View) (size c
     name_within = bound_within mid.names name (Plain v.at) bound_same
 
     -- the view ends within what the root has
-    pub covers : (capacity : ℕ) → Did (Done capacity) → LiesIn capacity v.at
+    pub covers : (capacity : ℕ) → Did (Done (Has capacity)) → LiesIn capacity v.at
     covers capacity did =
-        let a = view_lies in let b = knows_on (Done capacity) did in let k = did.fits.known in omega (arith, a, b, k)
+        let a = view_lies in let b = knows_on (Done (Has capacity)) did in let k = did.fits.known in
+        omega (arith, a, b, k)
 
     module _ (low : old.asked + (growing.left_of stage).asks ≤ sweep_period) (s : LaneState) (command : Command)
         (are : NamesAre s.names old.names) where
@@ -265,14 +268,15 @@ module _ (pool : SharedPool) (old mid : Context) (name : ℕ) (v : View) (size c
           }
 
       -- it comes to this, with these names
-      module _ (grows : Grows) (did : Did grows) (empty : growing.hand_after grows ≡ empty_hand)
-          (left : growing.left_after grows ≡ notes_alone 0) (some : 0 < length did.written) (got : Result ℕ Reply)
-          (ends : growing.rest_after old.shape lane root size class grows ≡ give got) where
+      module _ (came : StageStep GrowStage Regrown) (did : Did came)
+          (empty : growing.hand_after came ≡ empty_hand)
+          (left : growing.left_after came ≡ notes_alone 0) (some : 0 < length did.written) (got : Result ℕ Reply)
+          (ends : growing.rest_after old.shape lane root size class came ≡ give got) where
         abbrev added : List Entry
-        added = es grows did
+        added = es came did
 
-        abbrev st : Staged pool before (growing.hand_after grows) old start mid added (λ r. 0)
-        st = grown_so grows did
+        abbrev st : Staged pool before (growing.hand_after came) old start mid added (λ r. 0)
+        st = grown_so came did
 
         spent : Spends (view_of old.seat) (view_of mid.seat) (growing.left_of stage) (notes_alone 0)
         spent =
@@ -286,19 +290,20 @@ module _ (pool : SharedPool) (old mid : Context) (name : ℕ) (v : View) (size c
         reads_got : ReadsOn (rest stage >>= answers) (map entry_of added) asks (answers got)
         reads_got =
             given_on (rest stage) (map entry_of added) asks answers got
-            (subst (λ r. ReadsOn (rest stage) (map entry_of added) asks r) ends (read_on grows did))
+            (subst (λ r. ReadsOn (rest stage) (map entry_of added) asks r) ends (read_on came did))
 
       -- the root has so much, and the view reaches up to its end
-      pub grow_done : (new : Context) (capacity : ℕ) → Did (Done capacity) → (turn : Turn)
+      pub grow_done : (new : Context) (capacity : ℕ) → Did (Done (Has capacity)) → (turn : Turn)
           → Concludes (record mid { names = slice_set mid.names name (Some (Plain (reaching capacity v.at))) }) new
           (Reply.OkNumber capacity) turn
           → HasTurned pool old new s command (Growing name v size class stage) turn
       grow_done new capacity did turn concludes =
-          let w : ViewData = reaching capacity v.at in let grows : Grows = Done capacity in
+          let w : ViewData = reaching capacity v.at in
+          let came : StageStep GrowStage Regrown = Done (Has capacity) in
           let few = did.asked old.asked in let lt = bound_within old.names name (Plain v.at) bound in
-          staged_concludes pool before empty_hand old start mid (es grows did) (λ r. 0) (grown_so grows did) refl new
-          (slice_set mid.names name (Some (Plain w))) mid.counts (Reply.OkNumber capacity) refl
-          (counts_same grows did refl refl did.again (Ok capacity) refl)
+          staged_concludes pool before empty_hand old start mid (es came did) (λ r. 0) (grown_so came did) refl
+          new (slice_set mid.names name (Some (Plain w))) mid.counts (Reply.OkNumber capacity) refl
+          (counts_same came did refl refl did.again (Ok capacity) refl)
           (ap (λ (x : Context). length x.counts) mid_so)
           (rebound_view 0 old.names mid.names names_same name lt w
           (let a = covers capacity did in let k = did.fits.known in omega (arith, a, k)))
@@ -306,25 +311,26 @@ module _ (pool : SharedPool) (old mid : Context) (name : ℕ) (v : View) (size c
           (subst (λ (names : List (Option Bound)). NamesAre (bind name (Plain w) s.names)
           (slice_set names name (Some (Plain w)))) (sym names_same)
           (NamesAre-bind s.names old.names are name (Plain w) lt))
-          (some_of (es grows did) did.written (wrote grows did).noted did.again) (growing.left_of stage) refl
-          (spent grows did refl refl did.again (Ok capacity) refl) (omega (arith, few)) asks refl
+          (some_of (es came did) did.written (wrote came did).noted did.again) (growing.left_of stage) refl
+          (spent came did refl refl did.again (Ok capacity) refl) (omega (arith, few)) asks refl
           (rest stage >>= answers) (λ log. refl)
-          (reads_got grows did refl refl did.again (Ok capacity) refl) turn concludes
+          (reads_got came did refl refl did.again (Ok capacity) refl) turn concludes
 
       -- the arena was full
-      pub grow_full : (new : Context) → Did Full → (turn : Turn) → Concludes mid new Reply.Full turn
+      pub grow_full : (new : Context) → Did (Done Full) → (turn : Turn) → Concludes mid new Reply.Full turn
           → HasTurned pool old new s command (Growing name v size class stage) turn
       grow_full new did turn concludes =
           let few = did.asked old.asked in
-          staged_concludes pool before empty_hand old start mid (es Full did) (λ r. 0) (grown_so Full did) refl new
-          mid.names mid.counts Reply.Full refl (counts_same Full did refl refl did.again (Err Reply.Full) refl)
+          staged_concludes pool before empty_hand old start mid (es (Done Full) did) (λ r. 0)
+          (grown_so (Done Full) did) refl new mid.names mid.counts Reply.Full refl
+          (counts_same (Done Full) did refl refl did.again (Err Reply.Full) refl)
           (ap (λ (x : Context). length x.counts) mid_so)
           (rebound_same 0 old.names mid.names names_same) s command (Growing name v size class stage) s.names
           (subst (NamesAre s.names) (sym names_same) are)
-          (some_of (es Full did) did.written (wrote Full did).noted did.again) (growing.left_of stage) refl
-          (spent Full did refl refl did.again (Err Reply.Full) refl) (omega (arith, few)) asks refl
+          (some_of (es (Done Full) did) did.written (wrote (Done Full) did).noted did.again) (growing.left_of stage)
+          refl (spent (Done Full) did refl refl did.again (Err Reply.Full) refl) (omega (arith, few)) asks refl
           (rest stage >>= answers) (λ log. refl)
-          (reads_got Full did refl refl did.again (Err Reply.Full) refl) turn concludes
+          (reads_got (Done Full) did refl refl did.again (Err Reply.Full) refl) turn concludes
 
 -- ---- The command begins.
 

@@ -264,7 +264,7 @@ module _ (pool : SharedPool) (l : Lane) (lane : IsRunningLane pool l) (is : l.st
   at_rest : IsResting l.context lane.state lane.bound
   at_rest = lane.rest (subst IsAtRest (sym is) tt)
 
-  -- the law's state is the desk's
+  -- the law's state is the lane context's
   pub begin_state : IsState lane.state l.context.names l.context.counts
   begin_state =
       let a = at_rest.begun in let b = length-map (notes_of l.context) entry_of in

@@ -38,12 +38,10 @@ use Rattle.seat_work.proofs.HandLaws.{Carries, held_on}
 use Rattle.seat_work.proofs.HandNotes.{ref_carries, ended_carries}
 use Rattle.lane_core.specs.declared.counts.Counted.{Counted}
 use Rattle.lane_core.specs.declared.releasing.Releasing.{Releasing}
-use Rattle.lane_core.specs.declared.releasing.Releases.{Releases}
-use Rattle.lane_core.specs.declared.releasing.Releases.TheVariants.{More, Held as HeldBack, Done}
+use Rattle.lane_core.specs.declared.stage_step.StageStep.{StageStep}
+use Rattle.lane_core.specs.declared.stage_step.StageStep.TheVariants.{More, Held as HeldBack, Done}
 use Rattle.lane_core.specs.declared.retirement.Ending.{Ending}
 use Rattle.lane_core.specs.declared.retirement.Ending.TheVariants.{Root as EndRoot, Cache as AskCache, Arena as AskArena, Home as GoHome}
-use Rattle.lane_core.specs.declared.retirement.Ends.{Ends}
-use Rattle.lane_core.specs.declared.retirement.Ends.TheVariants.{More as EndMore, Held as EndHeld, Done as EndDone}
 use Rattle.pool_law.specs.declared.note.Held.{Held}
 use Rattle.lane_core.specs.Budgets.{Left, notes_alone, Spends}
 use Rattle.lane_core.specs.Counting.{counted, CountsAre}
@@ -140,10 +138,11 @@ alone (AskCache region handle) = refl
 alone (AskArena region handle) = refl
 alone (GoHome handle) = refl
 
-alone_after : (ends : Ends) → ending.left_after ends ≡ notes_alone (ending.left_after ends).notes
-alone_after (EndMore stage) = alone stage
-alone_after (EndHeld held stage) = alone stage
-alone_after EndDone = refl
+alone_after : (came : StageStep Ending (Unit {0}))
+    → ending.left_after came ≡ notes_alone (ending.left_after came).notes
+alone_after (More stage) = alone stage
+alone_after (HeldBack held stage) = alone stage
+alone_after (Done answer) = refl
 
 -- so many notes more are left before and after
 with_more : (v w : SeatView) (a b k : ℕ) → Spends v w (notes_alone a) (notes_alone b)
@@ -176,17 +175,18 @@ module _ (pool : SharedPool) (old new : PoolSeat) where
   w = view_of new
 
   module _ (cs : List Counted) (stage : Ending) (left : Vec Part)
-      (may : MayRelease pool old cs (stage_of (Some stage) left)) (log later : Vec Note) (ends : Ends)
-      (did : ending.HasEnded pool old new log later stage ends) where
+      (may : MayRelease pool old cs (stage_of (Some stage) left)) (log later : Vec Note)
+      (came : StageStep Ending (Unit {0}))
+      (did : ending.HasEnded pool old new log later stage came) where
     abbrev ending_wrote : Wrote pool old new did.written any_sampler any_sampler (ending.rest_of shape stage) none_asked
-        (ending.rest_after shape ends)
+        (ending.rest_after shape came)
     ending_wrote = did.wrote any_sampler
 
     abbrev es : List Entry
     es = ending_wrote.added
 
     -- what came of a step at the end
-    goes_on : (after : Releases) →
+    goes_on : (after : StageStep Releasing (Unit {0})) →
         ReadsOn (rest_of shape (stage_of (Some stage) left)) (map entry_of es) none_asked (rest_after shape after)
         → IsHeld (hand_after after) w → FitsAfter pool new after
         → IsTriedAgain pool old new (stage_of (Some stage) left) after (map note_of es)
@@ -217,49 +217,49 @@ module _ (pool : SharedPool) (old new : PoolSeat) where
     }
 
     ending_read : ReadsOn (rest_of shape (stage_of (Some stage) left)) (map entry_of es) none_asked
-        (ending.rest_after shape ends >> release_parts shape left.items)
+        (ending.rest_after shape came >> release_parts shape left.items)
     ending_read =
         then_on (ending.rest_of shape stage) (map entry_of es) none_asked (λ _. release_parts shape left.items)
-        (ending.rest_after shape ends) ending_wrote.read
+        (ending.rest_after shape came) ending_wrote.read
 
     ending_spent : Spends v w (left_of (stage_of (Some stage) left))
-        (notes_alone ((ending.left_after ends).notes + 6 * length left.items))
+        (notes_alone ((ending.left_after came).notes + 6 * length left.items))
     ending_spent =
-        with_more v w (ending.left_of stage).notes (ending.left_after ends).notes (6 * length left.items)
-        (subst (λ (l : Left × Left). Spends v w l.0 l.1) (λ i. (alone stage i, alone_after ends i)) did.spends)
+        with_more v w (ending.left_of stage).notes (ending.left_after came).notes (6 * length left.items)
+        (subst (λ (l : Left × Left). Spends v w l.0 l.1) (λ i. (alone stage i, alone_after came i)) did.spends)
 
     was_noted : 0 < length did.written → 0 < length (map note_of es)
     was_noted = subst (λ (ns : List Note). 0 < length ns) (sym ending_wrote.noted)
 
   module _ (cs : List Counted) (stage : Ending) (left : Vec Part)
       (may : MayRelease pool old cs (stage_of (Some stage) left)) (log later : Vec Note) where
-    pub end_more : (next : Ending) → ending.HasEnded pool old new log later stage (EndMore next)
+    pub end_more : (next : Ending) → ending.HasEnded pool old new log later stage (More next)
         → HasReleased pool old new cs cs log later (stage_of (Some stage) left) (More (stage_of (Some next) left))
     end_more next did =
-        goes_on cs stage left may log later (EndMore next) did (More (stage_of (Some next) left))
-        (ending_read cs stage left may log later (EndMore next) did) did.hand did.fits
-        (was_noted cs stage left may log later (EndMore next) did did.again) tt
-        (ending_spent cs stage left may log later (EndMore next) did)
+        goes_on cs stage left may log later (More next) did (More (stage_of (Some next) left))
+        (ending_read cs stage left may log later (More next) did) did.hand did.fits
+        (was_noted cs stage left may log later (More next) did did.again) tt
+        (ending_spent cs stage left may log later (More next) did)
 
-    pub end_held : (held : Held) (next : Ending) → ending.HasEnded pool old new log later stage (EndHeld held next)
+    pub end_held : (held : Held) (next : Ending) → ending.HasEnded pool old new log later stage (HeldBack held next)
         → HasReleased pool old new cs cs log later (stage_of (Some stage) left)
         (HeldBack held (stage_of (Some next) left))
     end_held held next did =
-        goes_on cs stage left may log later (EndHeld held next) did (HeldBack held (stage_of (Some next) left))
-        (ending_read cs stage left may log later (EndHeld held next) did) did.hand did.fits (
+        goes_on cs stage left may log later (HeldBack held next) did (HeldBack held (stage_of (Some next) left))
+        (ending_read cs stage left may log later (HeldBack held next) did) did.hand did.fits (
           ap (λ (e : Ending). stage_of (Some e) left) did.again.0,
           (did.wrote any_sampler).noted ∙ did.again.1,
           did.again.2,
           then_begins held.object (ending.rest_of shape stage) (λ _. release_parts shape left.items) did.again.3,
-        ) tt (ending_spent cs stage left may log later (EndHeld held next) did)
+        ) tt (ending_spent cs stage left may log later (HeldBack held next) did)
 
-    pub end_done : ending.HasEnded pool old new log later stage EndDone
+    pub end_done : ending.HasEnded pool old new log later stage (Done tt)
         → HasReleased pool old new cs cs log later (stage_of (Some stage) left) (More (stage_of None left))
     end_done did =
-        goes_on cs stage left may log later EndDone did (More (stage_of None left))
-        (ending_read cs stage left may log later EndDone did) did.hand tt
-        (was_noted cs stage left may log later EndDone did did.again) tt
-        (ending_spent cs stage left may log later EndDone did)
+        goes_on cs stage left may log later (Done tt) did (More (stage_of None left))
+        (ending_read cs stage left may log later (Done tt) did) did.hand tt
+        (was_noted cs stage left may log later (Done tt) did did.again) tt
+        (ending_spent cs stage left may log later (Done tt) did)
 
   -- ---- The next part that is counted.
 
@@ -360,7 +360,7 @@ module _ (pool : SharedPool) (old new : PoolSeat) where
 pub all_passed : (pool : SharedPool) (seat : PoolSeat) (cs : List Counted)
     (left after : Vec Part) (log : Vec Note) → MayRelease pool seat cs (stage_of None left)
     → NextCounted cs left.items after.items None
-    → HasReleased pool seat seat cs cs log log (stage_of None left) Done
+    → HasReleased pool seat seat cs cs log log (stage_of None left) (Done tt)
 all_passed pool seat cs left after log may next =
     let shape : Shape = pool.table.layout.shape in let v : SeatView = view_of seat in
     let grows : Grows v v [] 0 = record {

@@ -30,8 +30,8 @@ use Rattle.lane_core.specs.declared.context.Turn.{Turn}
 use Rattle.lane_core.specs.declared.context.Turn.TheVariants.{Went, Pending}
 use Rattle.lane_core.specs.declared.retirement.Ending.{Ending}
 use Rattle.lane_core.specs.declared.releasing.Releasing.{Releasing}
-use Rattle.lane_core.specs.declared.releasing.Releases.{Releases}
-use Rattle.lane_core.specs.declared.releasing.Releases.TheVariants.{More, Held as HeldBack, Done}
+use Rattle.lane_core.specs.declared.stage_step.StageStep.{StageStep}
+use Rattle.lane_core.specs.declared.stage_step.StageStep.TheVariants.{More, Held as HeldBack, Done}
 use Rattle.lane_core.specs.Composing.{HasLast, IsBindable, ended, released}
 use Rattle.lane_core.specs.Counting.{counted}
 use Rattle.lane_core.specs.Named.{NamesAre, bound_at, known_to}
@@ -78,7 +78,7 @@ module _ (shape : Shape) (cs : List Counted) (log : Log)
 
 module _ (pool : SharedPool) (old mid : Context) (stage : Releasing) (d : IsContext pool (releasing.hand_of stage) old)
     (mid_is : mid ≡ record old { seat = mid.seat; counts = mid.counts; notes = mid.notes }) where
-  module _ (result : Releases)
+  module _ (result : StageStep Releasing (Unit {0}))
       (did : releasing.HasReleased pool old.seat mid.seat old.counts mid.counts old.notes mid.notes stage result) where
     pub released_so : Moved pool (releasing.hand_of stage) (releasing.hand_after result) old mid did.added
     released_so = record {
@@ -218,15 +218,15 @@ module _ (pool : SharedPool) (old mid : Context) (stage : Releasing) (d : IsCont
         less = let one = last.2 in omega (arith, one)
 
     pub part_done : (new : Context)
-        → releasing.HasReleased pool old.seat mid.seat old.counts mid.counts old.notes mid.notes stage Done
+        → releasing.HasReleased pool old.seat mid.seat old.counts mid.counts old.notes mid.notes stage (Done tt)
         → HasReplied (recounted mid name c 0) new Reply.Freed
         → HasTurned pool old new s command (Parting name stage) (Went Ready)
     part_done new did replied =
-        moved_answer pool (releasing.hand_of stage) empty_hand old mid did.added (released_so Done did) refl new
+        moved_answer pool (releasing.hand_of stage) empty_hand old mid did.added (released_so (Done tt) did) refl new
         (slice_set mid.names name (Some (Composed (record c { count = 0 })))) Reply.Freed refl
         (rebound_count 0 old.names mid.names names_same name c last.1 0 (omega arith)) s command (Parting name stage)
         (ended s name).names ended_names (releasing.left_of stage) refl did.spends (parts_at stage) (λ log. refl)
-        (λ rest. released_then Done did (give (ended s name)) rest) replied low
+        (λ rest. released_then (Done tt) did (give (ended s name)) rest) replied low
 
   -- ---- What was copied is released, and then a name is bound.
 
@@ -338,5 +338,5 @@ module _ (pool : SharedPool) (old mid : Context) (stage : Releasing) (d : IsCont
 
   -- where some part is left, something was done
   pub replace_more : (IsOver old.counts stage → ⊥)
-      → releasing.HasReleased pool old.seat mid.seat old.counts mid.counts old.notes mid.notes stage Done → ⊥
+      → releasing.HasReleased pool old.seat mid.seat old.counts mid.counts old.notes mid.notes stage (Done tt) → ⊥
   replace_more more did = more did.over

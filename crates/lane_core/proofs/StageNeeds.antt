@@ -15,7 +15,8 @@ use Rattle.shared_pool.specs.SeatLanes.{lane_of}
 use Rattle.lane_core.specs.declared.context.Context.{Context}
 use Rattle.lane_core.specs.declared.allotment.Allotting.{Allotting as AllotStage}
 use Rattle.lane_core.specs.declared.retirement.Ending.{Ending as EndStage}
-use Rattle.lane_core.specs.declared.retirement.Ends.{Ends}
+use Rattle.lane_core.specs.declared.stage_step.StageStep.{StageStep}
+use Rattle.lane_core.specs.declared.stage_step.StageStep.TheVariants.{Done}
 use Rattle.lane_core.specs.declared.draining.DrainKind.{DrainKind}
 use Rattle.lane_core.specs.declared.draining.Draining.{Draining}
 use Rattle.lane_core.specs.declared.draining.Draining.TheVariants.{Done as AllDrained}
@@ -56,6 +57,11 @@ may_allot pool old class stage d room fits =
           d.held;
       fits = fits;
     }
+
+-- what is said of what a step came to is said of the answer that it came to
+pub done_with : {S A : Type 0} (Is : StageStep S A → Type 0) {came : StageStep S A} {answer same : A}
+    → came ≡ Done answer → answer ≡ same → Is came → Is (Done same)
+done_with {A} Is done it is = subst (λ (x : A). Is (Done x)) it (subst Is done is)
 
 -- the log has the room that is left for its notes
 pub log_room : (pool : SharedPool) (hand : Hand) (old : Context) (left : Left) → IsContext pool hand old
@@ -103,12 +109,12 @@ module _ (pool : SharedPool) (hand : Hand) (old : Context) (d : IsContext pool h
 
 -- a context behind a step of the end of a root can be answered
 pub end_can : (pool : SharedPool) (old mid : Context) (stage : EndStage) (d : IsContext pool (ending.hand_of stage) old)
-    → mid ≡ record old { seat = mid.seat; notes = mid.notes } → (ends : Ends)
-    → ending.HasEnded pool old.seat mid.seat old.notes mid.notes stage ends →
+    → mid ≡ record old { seat = mid.seat; notes = mid.notes } → (came : StageStep EndStage (Unit {0}))
+    → ending.HasEnded pool old.seat mid.seat old.notes mid.notes stage came →
     HasRoomFor pool old (ending.left_of stage) → length old.replies.items < vec_capacity old.replies → CanAnswer mid
-end_can pool old mid stage d mid_so ends did room replies =
+end_can pool old mid stage d mid_so came did room replies =
     let start : Context = record old { seat = mid.seat } in let wrote = did.wrote old.sampler in
-    answers_behind pool (ending.hand_of stage) old d (ending.left_of stage) (ending.left_after ends) room
+    answers_behind pool (ending.hand_of stage) old d (ending.left_of stage) (ending.left_after came) room
     (view_of mid.seat) wrote.added did.written wrote.more wrote.noted did.spends start mid refl
     (noted_so start mid did.written did.log mid_so) replies
 

@@ -17,8 +17,10 @@ use Rattle.shared_pool.specs.SeatLanes.{lane_of}
 use Rattle.shared_pool.specs.Seats.{IsPoolSeat, FoundBusy}
 use Rattle.lane_core.specs.declared.allotment.Allotting.{Allotting}
 use Rattle.lane_core.specs.declared.allotment.Allotting.TheVariants.{Handle, Cache, Arena, Birth, Home}
-use Rattle.lane_core.specs.declared.allotment.Allots.{Allots}
-use Rattle.lane_core.specs.declared.allotment.Allots.TheVariants.{More, Held, New as Born, NoHandle, Full}
+use Rattle.lane_core.specs.declared.allotment.Allotted.{Allotted}
+use Rattle.lane_core.specs.declared.allotment.Allotted.TheVariants.{New as Born, NoHandle, Full}
+use Rattle.lane_core.specs.declared.stage_step.StageStep.{StageStep}
+use Rattle.lane_core.specs.declared.stage_step.StageStep.TheVariants.{More, Held, Done}
 use Rattle.lane_core.specs.Logs.{HasWritten}
 use Rattle.seat_work.specs.Hands.{Hand, empty_hand, IsHeld, IsHandle, IsRegion}
 use Rattle.lane_core.specs.Budgets.{Left, notes_alone, Spends}
@@ -37,10 +39,10 @@ hand_of (Birth handle region) =
     record empty_hand { place = Some handle.place; region = Some region.id }
 hand_of (Home handle) = record empty_hand { place = Some handle.place }
 
-abbrev pub hand_after : Allots → Hand
+abbrev pub hand_after : StageStep Allotting Allotted → Hand
 hand_after (More stage) = hand_of stage
 hand_after (Held held stage) = hand_of stage
-hand_after _ = empty_hand
+hand_after (Done answer) = empty_hand
 
 -- what may still be spent on an allocation
 abbrev pub left_with : ℕ → ℕ → ℕ → ℕ → Left
@@ -55,14 +57,14 @@ left_of (Birth handle region) = left_with 2 0 0 1
 left_of (Home handle) = left_with 1 0 0 0
 
 -- a root that was born is counted once
-abbrev pub born_in : Allots → RootId → ℕ
-born_in (Born root region) other = one_for root other
+abbrev pub born_in : StageStep Allotting Allotted → RootId → ℕ
+born_in (Done (Born root region)) other = one_for root other
 born_in _ other = 0
 
-abbrev pub left_after : Allots → Left
+abbrev pub left_after : StageStep Allotting Allotted → Left
 left_after (More stage) = left_of stage
 left_after (Held held stage) = left_of stage
-left_after _ = notes_alone 0
+left_after (Done answer) = notes_alone 0
 
 -- how a log is read from this stage on, of an allocation of this size and class
 abbrev pub rest_of : Shape → ℕ → ℕ → ℕ → Allotting → Reader (Result New Reply)
@@ -76,13 +78,13 @@ rest_of shape lane size class (Birth handle region) =
 rest_of shape lane size class (Home handle) = bear lane handle.place size None
 
 -- and behind a step
-abbrev pub rest_after : Shape → ℕ → ℕ → ℕ → Allots → Reader (Result New Reply)
+abbrev pub rest_after : Shape → ℕ → ℕ → ℕ → StageStep Allotting Allotted → Reader (Result New Reply)
 rest_after shape lane size class (More stage) = rest_of shape lane size class stage
 rest_after shape lane size class (Held held stage) = rest_of shape lane size class stage
-rest_after shape lane size class (Born root region) =
+rest_after shape lane size class (Done (Born root region)) =
     give (Ok (record { root = root; region = region }))
-rest_after shape lane size class NoHandle = give (Err Reply.Handles)
-rest_after shape lane size class Full = give (Err Reply.Full)
+rest_after shape lane size class (Done NoHandle) = give (Err Reply.Handles)
+rest_after shape lane size class (Done Full) = give (Err Reply.Full)
 
 -- the step at this stage asks a cache, or it doesn't
 abbrev pub asks_of : Allotting → ℕ → ℕ
@@ -90,8 +92,8 @@ asks_of (Cache handle) = one_asked
 asks_of _ = none_asked
 
 -- a root of this size is born at a place of the shape
-abbrev pub BornWithin : SharedPool → ℕ → Allots → Type 0
-BornWithin pool size (Born root region) =
+abbrev pub BornWithin : SharedPool → ℕ → StageStep Allotting Allotted → Type 0
+BornWithin pool size (Done (Born root region)) =
     (root.place < pool.table.layout.shape.lanes * pool.table.layout.shape.handles)
     × (root.capacity ≡ size)
 BornWithin pool size _ = ⊤
@@ -99,7 +101,8 @@ BornWithin pool size _ = ⊤
 -- where another seat was there the same is to be tried again, nothing was noted, and the next note
 -- stands at that object; else something was
 abbrev pub IsTriedAgain :
-    SharedPool → PoolSeat → PoolSeat → ℕ → ℕ → Allotting → Allots → List Note → Type 0
+    SharedPool → PoolSeat → PoolSeat → ℕ → ℕ → Allotting → StageStep Allotting Allotted →
+    List Note → Type 0
 IsTriedAgain pool old new size class stage (Held held again) notes =
     (again ≡ stage) × (notes ≡ []) × FoundBusy pool held.object false old new held
     × BeginsAt held.object (rest_of pool.table.layout.shape (lane_of old) size class stage)
@@ -118,10 +121,10 @@ Fits pool seat class (Birth handle region) =
     IsHandle pool handle × IsRegion pool seat region × (region.id.class ≡ class)
 Fits pool seat class (Home handle) = IsOwnHandle pool seat handle
 
-abbrev pub FitsAfter : SharedPool → PoolSeat → ℕ → Allots → Type 0
+abbrev pub FitsAfter : SharedPool → PoolSeat → ℕ → StageStep Allotting Allotted → Type 0
 FitsAfter pool seat class (More stage) = Fits pool seat class stage
 FitsAfter pool seat class (Held held stage) = Fits pool seat class stage
-FitsAfter pool seat class _ = ⊤
+FitsAfter pool seat class (Done answer) = ⊤
 
 -- a seat of the pool with a turn left, and just what the stage has in hand
 pub record MayAllot
@@ -135,7 +138,7 @@ pub record MayAllot
 -- what a step of an allocation came to, and the notes that it wrote into the log
 pub record HasAllotted (pool : SharedPool) (old new : PoolSeat)
     (first last : Sampling) (before after : Vec Note) (size class : ℕ) (stage : Allotting)
-    (result : Allots) : Type 0
+    (result : StageStep Allotting Allotted) : Type 0
   where
     pub written : List Note
     pub log : HasWritten before after written

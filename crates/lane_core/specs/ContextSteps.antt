@@ -1,4 +1,5 @@
--- What the desk's own functions add to its log and its counts, before a command is answered.
+-- What the lane context's own functions add to its log and its counts, before a command is
+-- answered.
 use Rattle.std.specs.Prelude.{◌≡◌, ℕ, ◌+◌, ◌-◌, ◌<◌, ◌≤◌, ◌==◌, if◌then◌else◌, Bool, true, false, List, [], ◌∷◌, ◌++◌, length, Option, Some, None, slice_set, vec_capacity}
 use Rattle.pool_law.specs.declared.command.Command.{Command}
 use Rattle.pool_law.specs.declared.id.RootId.{RootId}

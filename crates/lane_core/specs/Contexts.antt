@@ -400,7 +400,7 @@ pub record PassesOver (pool : SharedPool) (old new : Context) (command : Command
         (left_after old.composes command Ready turn (view_of new.seat))
     pub comes : PassesTo old new added command turn
 
--- the desk's log, its seat and its mails have room for what is left
+-- the lane context's log, its seat and its mails have room for what is left
 pub record HasRoomFor (pool : SharedPool) (d : Context) (left : Left) : Type 0 where
   pub notes : length (notes_of d) + left.notes ≤ vec_capacity d.notes
   pub few : length (notes_of d) + left.notes ≤ most_of_lane

@@ -21,8 +21,8 @@ use Rattle.lane_core.specs.declared.counts.Counted.{Counted}
 use Rattle.lane_core.specs.declared.copying.Transfer.{Transfer}
 use Rattle.lane_core.specs.declared.copying.Copying.{Copying}
 use Rattle.lane_core.specs.declared.copying.Copying.TheVariants.{Get, Set}
-use Rattle.lane_core.specs.declared.copying.Copies.{Copies}
-use Rattle.lane_core.specs.declared.copying.Copies.TheVariants.{More, Held, Done}
+use Rattle.lane_core.specs.declared.stage_step.StageStep.{StageStep}
+use Rattle.lane_core.specs.declared.stage_step.StageStep.TheVariants.{More, Held, Done}
 use Rattle.lane_core.specs.Budgets.{Left, notes_alone, Spends}
 use Rattle.lane_core.specs.Counting.{CountsAre}
 use Rattle.seat_work.specs.Hands.{empty_hand, IsHeld}
@@ -40,10 +40,10 @@ abbrev pub left_of : Copying → Left
 left_of (Get root at first later) = notes_alone (2 + 2 * length later.items)
 left_of (Set root at bytes later) = notes_alone (1 + 2 * length later.items)
 
-abbrev pub left_after : Copies → Left
+abbrev pub left_after : StageStep Copying (Unit {0}) → Left
 left_after (More stage) = left_of stage
 left_after (Held held stage) = left_of stage
-left_after Done = notes_alone 0
+left_after (Done answer) = notes_alone 0
 
 -- how a log is read from this stage on
 abbrev pub rest_of : Copying → Reader (Unit {0})
@@ -53,10 +53,10 @@ rest_of (Set root at bytes later) =
     >> copy_parts root (at + length bytes.items) (parts_of later.items)
 
 -- and behind a step
-abbrev pub rest_after : Copies → Reader (Unit {0})
+abbrev pub rest_after : StageStep Copying (Unit {0}) → Reader (Unit {0})
 rest_after (More stage) = rest_of stage
 rest_after (Held held stage) = rest_of stage
-rest_after Done = nothing
+rest_after (Done answer) = nothing
 
 -- a part of a root that the view counts and knows so much of, with memory for its bytes twice
 pub record IsWithin (v : SeatView) (t : Transfer) : Type 0 where
@@ -75,15 +75,15 @@ Fits v (Set root at bytes later) =
     HasCount root v × All (IsWithin v) later.items
     × (at + length bytes.items + size_of (parts_of later.items) ≤ root.capacity)
 
-abbrev pub FitsAfter : SeatView → Copies → Type 0
+abbrev pub FitsAfter : SeatView → StageStep Copying (Unit {0}) → Type 0
 FitsAfter v (More stage) = Fits v stage
 FitsAfter v (Held held stage) = Fits v stage
-FitsAfter v Done = ⊤
+FitsAfter v (Done answer) = ⊤
 
 -- where another seat was there the same is to be tried again, nothing was noted, and the next note
 -- stands at that object; else something was
 abbrev pub IsTriedAgain :
-    SharedPool → PoolSeat → PoolSeat → Copying → Copies → List Note → Type 0
+    SharedPool → PoolSeat → PoolSeat → Copying → StageStep Copying (Unit {0}) → List Note → Type 0
 IsTriedAgain pool old new stage (Held held again) notes =
     (again ≡ stage) × (notes ≡ []) × FoundBusy pool held.object false old new held
     × BeginsAt held.object (rest_of stage)
@@ -99,7 +99,7 @@ pub record MayCopy (pool : SharedPool) (seat : PoolSeat) (stage : Copying) : Typ
 
 -- what a step of copying came to, and the note that it wrote into the log
 pub record HasCopied (pool : SharedPool) (old new : PoolSeat)
-    (before after : Vec Note) (stage : Copying) (result : Copies) : Type 0
+    (before after : Vec Note) (stage : Copying) (result : StageStep Copying (Unit {0})) : Type 0
   where
     pub written : List Note
     pub log : HasWritten before after written

@@ -19,8 +19,10 @@ use Rattle.lane_core.specs.declared.counts.Counted.{Counted}
 use Rattle.lane_core.specs.declared.crossing.Stretch.{Stretch}
 use Rattle.lane_core.specs.declared.crossing.Crossing.{Crossing}
 use Rattle.lane_core.specs.declared.crossing.Crossing.TheVariants.{Set, Get}
-use Rattle.lane_core.specs.declared.crossing.Crosses.{Crosses}
-use Rattle.lane_core.specs.declared.crossing.Crosses.TheVariants.{More, Held, WasSet, WasGot}
+use Rattle.lane_core.specs.declared.crossing.Crossed.{Crossed}
+use Rattle.lane_core.specs.declared.crossing.Crossed.TheVariants.{Set as WasSet, Got as WasGot}
+use Rattle.lane_core.specs.declared.stage_step.StageStep.{StageStep}
+use Rattle.lane_core.specs.declared.stage_step.StageStep.TheVariants.{More, Held, Done}
 use Rattle.lane_core.specs.Budgets.{Left, notes_alone, Spends}
 use Rattle.lane_core.specs.Counting.{CountsAre}
 use Rattle.seat_work.specs.Hands.{empty_hand, IsHeld}
@@ -51,11 +53,10 @@ stretches (Get first later got) = first ∷ later.items
 abbrev pub left_of : Crossing → Left
 left_of stage = notes_alone (length (stretches stage))
 
-abbrev pub left_after : Crosses → Left
+abbrev pub left_after : StageStep Crossing Crossed → Left
 left_after (More stage) = left_of stage
 left_after (Held held stage) = left_of stage
-left_after WasSet = notes_alone 0
-left_after (WasGot got) = notes_alone 0
+left_after (Done answer) = notes_alone 0
 
 -- how a log is read from this stage on, to the bytes that are got in all
 abbrev pub rest_of : Crossing → Reader (List ℕ)
@@ -65,11 +66,11 @@ rest_of (Get first later got) =
     get_parts (parts_of (first ∷ later.items)) >>= (λ more. give (got.items ++ more))
 
 -- and behind a step
-abbrev pub rest_after : Crosses → Reader (List ℕ)
+abbrev pub rest_after : StageStep Crossing Crossed → Reader (List ℕ)
 rest_after (More stage) = rest_of stage
 rest_after (Held held stage) = rest_of stage
-rest_after WasSet = give []
-rest_after (WasGot got) = give got.items
+rest_after (Done WasSet) = give []
+rest_after (Done (WasGot got)) = give got.items
 
 -- a part of a root that the view counts and knows so much of, with memory for just its bytes
 pub record IsWithin (v : SeatView) (s : Stretch) : Type 0 where
@@ -87,26 +88,25 @@ HasRoom (Get first later got) =
 abbrev pub Fits : SeatView → Crossing → Type 0
 Fits v stage = All (IsWithin v) (stretches stage) × HasRoom stage
 
-abbrev pub FitsAfter : SeatView → Crosses → Type 0
+abbrev pub FitsAfter : SeatView → StageStep Crossing Crossed → Type 0
 FitsAfter v (More stage) = Fits v stage
 FitsAfter v (Held held stage) = Fits v stage
-FitsAfter v WasSet = ⊤
-FitsAfter v (WasGot got) = ⊤
+FitsAfter v (Done answer) = ⊤
 
 -- parts that are set come to all being set, and parts that are got to their bytes
-abbrev pub IsAlike : Crossing → Crosses → Type 0
+abbrev pub IsAlike : Crossing → StageStep Crossing Crossed → Type 0
 IsAlike (Set first later) (More (Set next left)) = ⊤
 IsAlike (Set first later) (Held held (Set next left)) = ⊤
-IsAlike (Set first later) WasSet = ⊤
+IsAlike (Set first later) (Done WasSet) = ⊤
 IsAlike (Get first later got) (More (Get next left more)) = ⊤
 IsAlike (Get first later got) (Held held (Get next left more)) = ⊤
-IsAlike (Get first later got) (WasGot all) = ⊤
+IsAlike (Get first later got) (Done (WasGot all)) = ⊤
 IsAlike _ _ = ⊥
 
 -- where another seat was there the same is to be tried again, nothing was noted, and the next note
 -- stands at that object; else something was
 abbrev pub IsTriedAgain :
-    SharedPool → PoolSeat → PoolSeat → Crossing → Crosses → List Note → Type 0
+    SharedPool → PoolSeat → PoolSeat → Crossing → StageStep Crossing Crossed → List Note → Type 0
 IsTriedAgain pool old new stage (Held held again) notes =
     (again ≡ stage) × (notes ≡ []) × FoundBusy pool held.object false old new held
     × BeginsAt held.object (rest_of stage)
@@ -122,7 +122,7 @@ pub record MayCross (pool : SharedPool) (seat : PoolSeat) (stage : Crossing) : T
 
 -- what a step over a range came to, and the note that it wrote into the log
 pub record HasCrossed (pool : SharedPool) (old new : PoolSeat)
-    (before after : Vec Note) (stage : Crossing) (result : Crosses) : Type 0
+    (before after : Vec Note) (stage : Crossing) (result : StageStep Crossing Crossed) : Type 0
   where
     pub written : List Note
     pub log : HasWritten before after written

@@ -17,8 +17,8 @@ use Rattle.shared_pool.specs.RootNotes.{HoldsToken}
 use Rattle.shared_pool.specs.Seats.{IsPoolSeat, FoundBusy}
 use Rattle.lane_core.specs.declared.retirement.Ending.{Ending}
 use Rattle.lane_core.specs.declared.retirement.Ending.TheVariants.{Root, Cache, Arena, Home}
-use Rattle.lane_core.specs.declared.retirement.Ends.{Ends}
-use Rattle.lane_core.specs.declared.retirement.Ends.TheVariants.{More, Held, Done}
+use Rattle.lane_core.specs.declared.stage_step.StageStep.{StageStep}
+use Rattle.lane_core.specs.declared.stage_step.StageStep.TheVariants.{More, Held, Done}
 use Rattle.lane_core.specs.Logs.{HasWritten}
 use Rattle.seat_work.specs.Hands.{Hand, empty_hand, IsHeld, IsHandle, IsRegion}
 use Rattle.lane_core.specs.Budgets.{Left, notes_alone, Spends}
@@ -36,10 +36,10 @@ hand_of (Arena region handle) =
     record empty_hand { place = Some handle.place; region = Some region.id }
 hand_of (Home handle) = record empty_hand { place = Some handle.place }
 
-abbrev pub hand_after : Ends → Hand
+abbrev pub hand_after : StageStep Ending (Unit {0}) → Hand
 hand_after (More stage) = hand_of stage
 hand_after (Held held stage) = hand_of stage
-hand_after Done = empty_hand
+hand_after (Done answer) = empty_hand
 
 -- what may still be spent on the end of a root
 abbrev pub left_of : Ending → Left
@@ -48,10 +48,10 @@ left_of (Cache region handle) = notes_alone 3
 left_of (Arena region handle) = notes_alone 2
 left_of (Home handle) = notes_alone 1
 
-abbrev pub left_after : Ends → Left
+abbrev pub left_after : StageStep Ending (Unit {0}) → Left
 left_after (More stage) = left_of stage
 left_after (Held held stage) = left_of stage
-left_after Done = notes_alone 0
+left_after (Done answer) = notes_alone 0
 
 -- the handle of a place goes home
 abbrev pub goes_home : Shape → ℕ → Reader (Unit {0})
@@ -73,15 +73,15 @@ rest_of shape (Arena region handle) = give_back region.id >> goes_home shape han
 rest_of shape (Home handle) = goes_home shape handle.place
 
 -- and behind a step
-abbrev pub rest_after : Shape → Ends → Reader (Unit {0})
+abbrev pub rest_after : Shape → StageStep Ending (Unit {0}) → Reader (Unit {0})
 rest_after shape (More stage) = rest_of shape stage
 rest_after shape (Held held stage) = rest_of shape stage
-rest_after shape Done = nothing
+rest_after shape (Done answer) = nothing
 
 -- where another seat was there the same is to be tried again, nothing was noted, and the next note
 -- stands at that object; else something was
 abbrev pub IsTriedAgain :
-    SharedPool → PoolSeat → PoolSeat → Ending → Ends → List Note → Type 0
+    SharedPool → PoolSeat → PoolSeat → Ending → StageStep Ending (Unit {0}) → List Note → Type 0
 IsTriedAgain pool old new stage (Held held again) notes =
     (again ≡ stage) × (notes ≡ []) × FoundBusy pool held.object false old new held
     × BeginsAt held.object (rest_of pool.table.layout.shape stage)
@@ -95,10 +95,10 @@ Fits pool seat (Cache region handle) =
 Fits pool seat (Arena region handle) = IsHandle pool handle × IsRegion pool seat region
 Fits pool seat (Home handle) = IsHandle pool handle
 
-abbrev pub FitsAfter : SharedPool → PoolSeat → Ends → Type 0
+abbrev pub FitsAfter : SharedPool → PoolSeat → StageStep Ending (Unit {0}) → Type 0
 FitsAfter pool seat (More stage) = Fits pool seat stage
 FitsAfter pool seat (Held held stage) = Fits pool seat stage
-FitsAfter pool seat Done = ⊤
+FitsAfter pool seat (Done answer) = ⊤
 
 -- a seat of the pool with a turn left, and just what the stage has in hand
 pub record MayEnd (pool : SharedPool) (seat : PoolSeat) (stage : Ending) : Type 0
@@ -110,7 +110,7 @@ pub record MayEnd (pool : SharedPool) (seat : PoolSeat) (stage : Ending) : Type 
 
 -- what a step at the end of a root came to, and the notes that it wrote into the log
 pub record HasEnded (pool : SharedPool) (old new : PoolSeat)
-    (before after : Vec Note) (stage : Ending) (result : Ends) : Type 0
+    (before after : Vec Note) (stage : Ending) (result : StageStep Ending (Unit {0})) : Type 0
   where
     pub written : List Note
     pub log : HasWritten before after written

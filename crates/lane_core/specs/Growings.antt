@@ -25,8 +25,10 @@ use Rattle.seat_work.specs.Hands.{Hand, empty_hand, IsHeld, IsRegion}
 use Rattle.lane_core.specs.declared.counts.Counted.{Counted}
 use Rattle.lane_core.specs.declared.growing.Growing.{Growing}
 use Rattle.lane_core.specs.declared.growing.Growing.TheVariants.{Room, Cache, Arena, Grow, Put, Give}
-use Rattle.lane_core.specs.declared.growing.Grows.{Grows}
-use Rattle.lane_core.specs.declared.growing.Grows.TheVariants.{More, Held, Done, Full}
+use Rattle.lane_core.specs.declared.growing.Regrown.{Regrown}
+use Rattle.lane_core.specs.declared.growing.Regrown.TheVariants.{Has, Full}
+use Rattle.lane_core.specs.declared.stage_step.StageStep.{StageStep}
+use Rattle.lane_core.specs.declared.stage_step.StageStep.TheVariants.{More, Held, Done}
 use Rattle.lane_core.specs.Allotments.{left_with}
 use Rattle.lane_core.specs.Budgets.{Left, notes_alone, Spends}
 use Rattle.lane_core.specs.Counting.{CountsAre}
@@ -52,11 +54,10 @@ hand_of (Grow region) = record empty_hand { region = Some region.id }
 hand_of (Put capacity region) = record empty_hand { region = Some region.id }
 hand_of (Give capacity region) = record empty_hand { region = Some region.id }
 
-abbrev pub hand_after : Grows → Hand
+abbrev pub hand_after : StageStep Growing Regrown → Hand
 hand_after (More stage) = hand_of stage
 hand_after (Held held stage) = hand_of stage
-hand_after (Done capacity) = empty_hand
-hand_after Full = empty_hand
+hand_after (Done answer) = empty_hand
 
 -- what may still be spent on it
 abbrev pub left_of : Growing → Left
@@ -67,11 +68,10 @@ left_of (Grow region) = left_with 3 0 0 0
 left_of (Put capacity region) = left_with 2 0 0 0
 left_of (Give capacity region) = left_with 1 0 0 0
 
-abbrev pub left_after : Grows → Left
+abbrev pub left_after : StageStep Growing Regrown → Left
 left_after (More stage) = left_of stage
 left_after (Held held stage) = left_of stage
-left_after (Done capacity) = notes_alone 0
-left_after Full = notes_alone 0
+left_after (Done answer) = notes_alone 0
 
 -- how a log is read from this stage on, of a root that is asked for this size, of this class
 abbrev pub rest_of : Shape → ℕ → RootId → ℕ → ℕ → Growing → Reader (Result ℕ Reply)
@@ -85,11 +85,12 @@ rest_of shape lane root size class (Give capacity region) =
     give_back region.id >> give (Ok capacity)
 
 -- and behind a step
-abbrev pub rest_after : Shape → ℕ → RootId → ℕ → ℕ → Grows → Reader (Result ℕ Reply)
+abbrev pub rest_after :
+    Shape → ℕ → RootId → ℕ → ℕ → StageStep Growing Regrown → Reader (Result ℕ Reply)
 rest_after shape lane root size class (More stage) = rest_of shape lane root size class stage
 rest_after shape lane root size class (Held held stage) = rest_of shape lane root size class stage
-rest_after shape lane root size class (Done capacity) = give (Ok capacity)
-rest_after shape lane root size class Full = give (Err Reply.Full)
+rest_after shape lane root size class (Done (Has capacity)) = give (Ok capacity)
+rest_after shape lane root size class (Done Full) = give (Err Reply.Full)
 
 -- the step at this stage asks a cache, or it doesn't
 abbrev pub asks_of : Growing → ℕ → ℕ
@@ -99,7 +100,8 @@ asks_of _ = none_asked
 -- where another seat was there the same is to be tried again, nothing was noted, and the next note
 -- stands at that object; else something was
 abbrev pub IsTriedAgain :
-    SharedPool → PoolSeat → PoolSeat → RootId → ℕ → ℕ → Growing → Grows → List Note → Type 0
+    SharedPool → PoolSeat → PoolSeat → RootId → ℕ → ℕ → Growing → StageStep Growing Regrown →
+    List Note → Type 0
 IsTriedAgain pool old new root size class stage (Held held again) notes =
     (again ≡ stage) × (notes ≡ []) × FoundBusy pool held.object false old new held
     × BeginsAt held.object (rest_of pool.table.layout.shape (lane_of old) root size class stage)
@@ -126,11 +128,11 @@ Fits pool seat root size class (Put capacity region) =
 Fits pool seat root size class (Give capacity region) =
     IsRegion pool seat region × Knows root size capacity (view_of seat)
 
-abbrev pub FitsAfter : SharedPool → PoolSeat → RootId → ℕ → ℕ → Grows → Type 0
+abbrev pub FitsAfter : SharedPool → PoolSeat → RootId → ℕ → ℕ → StageStep Growing Regrown → Type 0
 FitsAfter pool seat root size class (More stage) = Fits pool seat root size class stage
 FitsAfter pool seat root size class (Held held stage) = Fits pool seat root size class stage
-FitsAfter pool seat root size class (Done capacity) = Knows root size capacity (view_of seat)
-FitsAfter pool seat root size class Full = ⊤
+FitsAfter pool seat root size class (Done (Has capacity)) = Knows root size capacity (view_of seat)
+FitsAfter pool seat root size class (Done Full) = ⊤
 
 -- a seat of the pool with a turn left, and just what the stage has in hand
 pub record MayGrow (pool : SharedPool) (seat : PoolSeat) (root : RootId) (size class : ℕ)
@@ -144,8 +146,8 @@ pub record MayGrow (pool : SharedPool) (seat : PoolSeat) (root : RootId) (size c
 -- what a step of that came to, and the note that it wrote into the log; each root is counted as often
 -- as before
 pub record HasGrown (pool : SharedPool) (old new : PoolSeat)
-    (before after : Vec Note) (root : RootId) (size class : ℕ) (stage : Growing) (result : Grows) :
-    Type 0
+    (before after : Vec Note) (root : RootId) (size class : ℕ) (stage : Growing)
+    (result : StageStep Growing Regrown) : Type 0
   where
     pub written : List Note
     pub log : HasWritten before after written

@@ -131,7 +131,7 @@ abbrev pub IsAtRest : Stage → Type 0
 IsAtRest Ready = ⊤
 IsAtRest _ = ⊥
 
--- where no command is under way, the law's state is the desk's
+-- where no command is under way, the law's state is the lane context's
 pub record IsResting (d : Context) (s : LaneState) (names : Names) : Type 0 where
   pub begun : d.begun ≡ length (notes_of d)
   pub names_are : names ≡ s.names

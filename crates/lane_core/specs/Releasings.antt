@@ -19,8 +19,8 @@ use Rattle.shared_pool.specs.Seats.{IsPoolSeat, FoundBusy}
 use Rattle.lane_core.specs.declared.counts.Counted.{Counted}
 use Rattle.lane_core.specs.declared.retirement.Ending.{Ending}
 use Rattle.lane_core.specs.declared.releasing.Releasing.{Releasing}
-use Rattle.lane_core.specs.declared.releasing.Releases.{Releases}
-use Rattle.lane_core.specs.declared.releasing.Releases.TheVariants.{More, Held, Done}
+use Rattle.lane_core.specs.declared.stage_step.StageStep.{StageStep}
+use Rattle.lane_core.specs.declared.stage_step.StageStep.TheVariants.{More, Held, Done}
 use Rattle.lane_core.specs.Budgets.{Left, notes_alone, Spends}
 use Rattle.lane_core.specs.Counting.{CountsAre, counted}
 use Rattle.seat_work.specs.Hands.{Hand, empty_hand, IsHeld}
@@ -50,29 +50,29 @@ rest_in shape (Some stage) = ending.rest_of shape stage
 abbrev pub hand_of : Releasing → Hand
 hand_of stage = hand_in stage.ending
 
-abbrev pub hand_after : Releases → Hand
+abbrev pub hand_after : StageStep Releasing (Unit {0}) → Hand
 hand_after (More stage) = hand_of stage
 hand_after (Held held stage) = hand_of stage
-hand_after Done = empty_hand
+hand_after (Done answer) = empty_hand
 
 -- a release notes at most six things
 abbrev pub left_of : Releasing → Left
 left_of stage = notes_alone (notes_in stage.ending + 6 * length stage.left.items)
 
-abbrev pub left_after : Releases → Left
+abbrev pub left_after : StageStep Releasing (Unit {0}) → Left
 left_after (More stage) = left_of stage
 left_after (Held held stage) = left_of stage
-left_after Done = notes_alone 0
+left_after (Done answer) = notes_alone 0
 
 -- how a log is read from this stage on
 abbrev pub rest_of : Shape → Releasing → Reader (Unit {0})
 rest_of shape stage = rest_in shape stage.ending >> release_parts shape stage.left.items
 
 -- and behind a step
-abbrev pub rest_after : Shape → Releases → Reader (Unit {0})
+abbrev pub rest_after : Shape → StageStep Releasing (Unit {0}) → Reader (Unit {0})
 rest_after shape (More stage) = rest_of shape stage
 rest_after shape (Held held stage) = rest_of shape stage
-rest_after shape Done = nothing
+rest_after shape (Done answer) = nothing
 
 -- over these entries the one reading goes on as the other, of a log with these counts
 abbrev pub ReadsOnWith : {A : Type 0} → List Counted → Reader A → ToldNotes → Reader A → Type 0
@@ -97,29 +97,30 @@ abbrev pub IsOver : List Counted → Releasing → Type 0
 IsOver cs stage = (stage.ending ≡ None) × AreUncounted cs stage.left.items
 
 -- so it is where all was done
-abbrev pub IsOverAt : List Counted → Releasing → Releases → Type 0
+abbrev pub IsOverAt : List Counted → Releasing → StageStep Releasing (Unit {0}) → Type 0
 IsOverAt cs stage (More next) = ⊤
 IsOverAt cs stage (Held held again) = ⊤
-IsOverAt cs stage Done = IsOver cs stage
+IsOverAt cs stage (Done answer) = IsOver cs stage
 
 -- what is in hand is the pool's
 abbrev pub Fits : SharedPool → PoolSeat → Releasing → Type 0
 Fits pool seat stage = IfSome stage.ending (ending.Fits pool seat)
 
-abbrev pub FitsAfter : SharedPool → PoolSeat → Releases → Type 0
+abbrev pub FitsAfter : SharedPool → PoolSeat → StageStep Releasing (Unit {0}) → Type 0
 FitsAfter pool seat (More stage) = Fits pool seat stage
 FitsAfter pool seat (Held held stage) = Fits pool seat stage
-FitsAfter pool seat Done = ⊤
+FitsAfter pool seat (Done answer) = ⊤
 
 -- where another seat was there the same is to be tried again, nothing was noted, and the next note
 -- stands at that object; where all is done nothing was noted either; else something was
 abbrev pub IsTriedAgain :
-    SharedPool → PoolSeat → PoolSeat → Releasing → Releases → List Note → Type 0
+    SharedPool → PoolSeat → PoolSeat → Releasing → StageStep Releasing (Unit {0}) →
+    List Note → Type 0
 IsTriedAgain pool old new stage (Held held again) notes =
     (again ≡ stage) × (notes ≡ []) × FoundBusy pool held.object false old new held
     × BeginsAt held.object (rest_of pool.table.layout.shape stage)
 IsTriedAgain pool old new stage (More next) notes = 0 < length notes
-IsTriedAgain pool old new stage Done notes = notes ≡ []
+IsTriedAgain pool old new stage (Done answer) notes = notes ≡ []
 
 -- a seat of the pool with just what the stage has in hand, whose counts these are, and with a turn
 -- left where something may be noted
@@ -135,7 +136,7 @@ pub record MayRelease (pool : SharedPool) (seat : PoolSeat) (cs : List Counted)
 -- what a step of releasing came to, the notes that it wrote into the log, and the counts then
 pub record HasReleased (pool : SharedPool) (old new : PoolSeat)
     (cs_before cs_after : List Counted) (before after : Vec Note)
-    (stage : Releasing) (result : Releases) : Type 0
+    (stage : Releasing) (result : StageStep Releasing (Unit {0})) : Type 0
   where
     pub added : List Entry
     pub same : SameSeat old new

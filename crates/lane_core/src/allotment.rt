@@ -10,9 +10,10 @@ ghost use Rattle.lane_core.specs.declared.allotment.Allotting.{Allotting};
 ghost use Rattle.lane_core.specs.Allotments.{MayAllot, HasAllotted, left_of};
 
 use crate::notes::{at, lane_of, to, write};
+use crate::stage_step::StageStep;
 use handle_bin::Handle;
 use leak_records::Sampler;
-use pool_law::{Did, Held, Note, Object, RefDid, Region, RegionId, RootId, Shape};
+use pool_law::{Did, Note, Object, RefDid, Region, RegionId, RootId, Shape};
 use shared_pool::{PoolSeat, SharedPool, Went};
 use size_classes::CACHED_CLASSES;
 
@@ -30,11 +31,8 @@ pub enum Allotting {
     Home(Handle),
 }
 
-/// What a step of an allocation came to.
-pub enum Allots {
-    More(Allotting),
-    /// Another seat was there; the same is to be tried again.
-    Held(Held, Allotting),
+/// What an allocation answers.
+pub enum Allotted {
     /// A root was born, with this region.
     New(RootId, RegionId),
     /// The bin was empty.
@@ -54,7 +52,7 @@ pub fn allot(
     size: u32,
     class: u32,
     stage: Allotting,
-) -> Allots
+) -> StageStep<Allotting, Allotted>
     requires may { MayAllot pool.now seat.old class stage }
     requires short { IsShort pool.now.table.layout }
     requires shape { shape.now ≡ pool.now.table.layout.shape }
@@ -73,7 +71,12 @@ pub fn allot(
     }
 }
 
-fn ask_bin(pool: &SharedPool, seat: &mut PoolSeat, log: &mut Vec<Note>, class: u32) -> Allots
+fn ask_bin(
+    pool: &SharedPool,
+    seat: &mut PoolSeat,
+    log: &mut Vec<Note>,
+    class: u32,
+) -> StageStep<Allotting, Allotted>
     requires may { MayAllot pool.now seat.old class Allotting.Handle }
     requires room { length log.old.items < vec_capacity log.old }
     ensures { (sampler : Sampling) (size : ℕ) →
@@ -85,17 +88,17 @@ fn ask_bin(pool: &SharedPool, seat: &mut PoolSeat, log: &mut Vec<Note>, class: u
     match pool.pop_handle(seat) {
         Went::Did(number, None) => {
             write(log, at(bin, number, Did::NoHandle));
-            Allots::NoHandle
+            StageStep::Done(Allotted::NoHandle)
         }
         Went::Did(number, Some(handle)) => {
             write(log, at(bin, number, Did::Handle(handle.place())));
             if class < CACHED_CLASSES {
-                Allots::More(Allotting::Cache(handle))
+                StageStep::More(Allotting::Cache(handle))
             } else {
-                Allots::More(Allotting::Arena(handle))
+                StageStep::More(Allotting::Arena(handle))
             }
         }
-        Went::Held(held, ()) => Allots::Held(held, Allotting::Handle),
+        Went::Held(held, ()) => StageStep::Held(held, Allotting::Handle),
     }
 }
 
@@ -105,7 +108,7 @@ fn ask_cache(
     log: &mut Vec<Note>,
     class: u32,
     handle: Handle,
-) -> Allots
+) -> StageStep<Allotting, Allotted>
     requires may { MayAllot pool.now seat.old class (Allotting.Cache handle) }
     requires room { length log.old.items < vec_capacity log.old }
     ensures { (sampler : Sampling) (size : ℕ) →
@@ -119,15 +122,15 @@ fn ask_cache(
     match pool.pop_cached(seat, class) {
         Went::Did(number, Some(region)) => {
             write(log, at(cache, number, Did::Hit(region.id)));
-            Allots::More(Allotting::Birth(handle, region))
+            StageStep::More(Allotting::Birth(handle, region))
         }
         Went::Did(number, None) => {
             write(log, at(cache, number, Did::Miss));
-            Allots::More(Allotting::Arena(handle))
+            StageStep::More(Allotting::Arena(handle))
         }
         Went::Held(held, ()) => {
             write(log, Note::Busy(held));
-            Allots::More(Allotting::Arena(handle))
+            StageStep::More(Allotting::Arena(handle))
         }
     }
 }
@@ -139,7 +142,7 @@ fn ask_arena(
     log: &mut Vec<Note>,
     class: u32,
     handle: Handle,
-) -> Allots
+) -> StageStep<Allotting, Allotted>
     requires may { MayAllot pool.now seat.old class (Allotting.Arena handle) }
     requires shape { shape.now ≡ pool.now.table.layout.shape }
     requires class { class < class_count (geometry_of shape.now) }
@@ -156,13 +159,13 @@ fn ask_arena(
                 region: region.id,
             };
             write(log, at(arena, number, did));
-            Allots::More(Allotting::Birth(handle, region))
+            StageStep::More(Allotting::Birth(handle, region))
         }
         Went::Did(number, None) => {
             write(log, at(arena, number, Did::Full { class }));
-            Allots::More(Allotting::Home(handle))
+            StageStep::More(Allotting::Home(handle))
         }
-        Went::Held(held, ()) => Allots::Held(held, Allotting::Arena(handle)),
+        Went::Held(held, ()) => StageStep::Held(held, Allotting::Arena(handle)),
     }
 }
 
@@ -174,7 +177,7 @@ fn bear(
     size: u32,
     handle: Handle,
     region: Region,
-) -> Allots
+) -> StageStep<Allotting, Allotted>
     requires may { MayAllot pool.now seat.old region.id.class (Allotting.Birth handle region) }
     requires short { IsShort pool.now.table.layout }
     requires size { size ≤ size_at region.id.class }
@@ -193,10 +196,15 @@ fn bear(
     let did = Did::Birth { root, region: used };
     write(log, at(Object::Root(root.place), number, did));
     write(log, to(root, RefDid::Born));
-    Allots::New(root, used)
+    StageStep::Done(Allotted::New(root, used))
 }
 
-fn go_home(pool: &SharedPool, seat: &mut PoolSeat, log: &mut Vec<Note>, handle: Handle) -> Allots
+fn go_home(
+    pool: &SharedPool,
+    seat: &mut PoolSeat,
+    log: &mut Vec<Note>,
+    handle: Handle,
+) -> StageStep<Allotting, Allotted>
     requires may { (class : ℕ) → MayAllot pool.now seat.old class (Allotting.Home handle) }
     requires room { length log.old.items < vec_capacity log.old }
     ensures { (sampler : Sampling) (size class : ℕ) →
@@ -208,8 +216,8 @@ fn go_home(pool: &SharedPool, seat: &mut PoolSeat, log: &mut Vec<Note>, handle: 
     match pool.put_handle(seat, handle) {
         Went::Did(number, ()) => {
             write(log, at(bin, number, Did::Home(place)));
-            Allots::Full
+            StageStep::Done(Allotted::Full)
         }
-        Went::Held(held, handle) => Allots::Held(held, Allotting::Home(handle)),
+        Went::Held(held, handle) => StageStep::Held(held, Allotting::Home(handle)),
     }
 }

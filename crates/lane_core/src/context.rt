@@ -20,7 +20,7 @@ ghost use Rattle.lane_core.specs.declared.draining.DrainKind.TheVariants.{Close}
 ghost use Rattle.lane_core.specs.declared.draining.Draining.{Draining};
 
 use crate::access::Refusal;
-use crate::allotment::{Allots, Allotting, allot};
+use crate::allotment::{Allotted, Allotting, allot};
 use crate::bound::Bound;
 use crate::composed::{Composed, Marks};
 use crate::copying::Copying;
@@ -32,6 +32,7 @@ use crate::names::Names;
 use crate::notes::{at, write};
 use crate::releasing::Releasing;
 use crate::retirement::{Ending, end};
+use crate::stage_step::StageStep;
 use crate::work::Consolidation;
 use byte_view::View;
 use leak_records::Sampler;
@@ -312,7 +313,7 @@ impl Context {
             HasTurned pool.now self.old self.new s command stage result }
     {
         self.asked = asked_with(&stage, self.asked);
-        let allots = allot(
+        let step = allot(
             pool,
             &self.shape,
             &mut self.seat,
@@ -322,14 +323,14 @@ impl Context {
             class,
             stage,
         );
-        match allots {
-            Allots::More(stage) => Turn::Went(Stage::Allotting {
+        match step {
+            StageStep::More(stage) => Turn::Went(Stage::Allotting {
                 name,
                 size,
                 class,
                 stage,
             }),
-            Allots::Held(held, stage) => {
+            StageStep::Held(held, stage) => {
                 let next = Stage::Allotting {
                     name,
                     size,
@@ -338,7 +339,7 @@ impl Context {
                 };
                 Turn::Pending(held, next)
             }
-            Allots::New(root, region) => {
+            StageStep::Done(Allotted::New(root, region)) => {
                 self.counts.add(root);
                 self.names.bind(name, Bound::Plain(View::of_root(root)));
                 self.conclude(Reply::OkPlace {
@@ -346,8 +347,8 @@ impl Context {
                     place: region.place,
                 })
             }
-            Allots::NoHandle => self.conclude(Reply::Handles),
-            Allots::Full => self.conclude(Reply::Full),
+            StageStep::Done(Allotted::NoHandle) => self.conclude(Reply::Handles),
+            StageStep::Done(Allotted::Full) => self.conclude(Reply::Full),
         }
     }
 

@@ -6,7 +6,8 @@ ghost use Rattle.lane_core.specs.Copyings.{HasCopied, MayCopy, left_of};
 ghost use Rattle.lane_core.specs.declared.copying.Copying.{Copying};
 
 use crate::notes::{at, write};
-use pool_law::{Bytes, Did, Held, Note, Object, Part, RootId};
+use crate::stage_step::StageStep;
+use pool_law::{Bytes, Did, Note, Object, Part, RootId};
 use shared_pool::{PoolSeat, SharedPool, Went};
 
 /// A part that is to be copied, with the memory for the two notes of that.
@@ -36,17 +37,13 @@ pub enum Copying {
     },
 }
 
-/// What a step of copying came to.
-pub enum Copies {
-    More(Copying),
-    /// Another seat was there; the same is to be tried again.
-    Held(Held, Copying),
-    /// All parts are copied.
-    Done,
-}
-
-/// Gets or sets the next part, and writes its note into the log.
-pub fn copy(pool: &SharedPool, seat: &mut PoolSeat, log: &mut Vec<Note>, stage: Copying) -> Copies
+/// Gets or sets the next part, and writes its note into the log. It is done once all are copied.
+pub fn copy(
+    pool: &SharedPool,
+    seat: &mut PoolSeat,
+    log: &mut Vec<Note>,
+    stage: Copying,
+) -> StageStep<Copying, ()>
     requires may { MayCopy pool.now seat.old stage }
     requires room { length log.old.items + (left_of stage).notes ≤ vec_capacity log.old }
     ensures { HasCopied pool.now seat.old seat.new log.old log.new stage result }
@@ -74,7 +71,7 @@ fn get_next(
     goal: (RootId, u32),
     mut first: Transfer,
     later: Vec<Transfer>,
-) -> Copies
+) -> StageStep<Copying, ()>
     requires may { MayCopy pool.now seat.old (Copying.Get goal.0 goal.1 first later) }
     requires room { length log.old.items < vec_capacity log.old }
     ensures { HasCopied pool.now seat.old seat.new log.old log.new
@@ -92,14 +89,14 @@ fn get_next(
             let got = Bytes::of(first.got);
             let did = Did::Get { offset, bytes: got };
             write(log, at(Object::Root(root.place), number, did));
-            Copies::More(Copying::Set {
+            StageStep::More(Copying::Set {
                 root: goal.0,
                 at: goal.1,
                 bytes,
                 later,
             })
         }
-        Went::Held(held, ()) => Copies::Held(
+        Went::Held(held, ()) => StageStep::Held(
             held,
             Copying::Get {
                 root: goal.0,
@@ -118,7 +115,7 @@ fn set_next(
     goal: (RootId, u32),
     bytes: Vec<u8>,
     mut later: Vec<Transfer>,
-) -> Copies
+) -> StageStep<Copying, ()>
     requires may { MayCopy pool.now seat.old (Copying.Set goal.0 goal.1 bytes later) }
     requires room { length log.old.items < vec_capacity log.old }
     ensures { HasCopied pool.now seat.old seat.new log.old log.new
@@ -132,17 +129,17 @@ fn set_next(
             let did = Did::Set { offset, bytes };
             write(log, at(Object::Root(root.place), number, did));
             if later.is_empty() {
-                return Copies::Done;
+                return StageStep::Done(());
             }
             let first = later.remove(0);
-            Copies::More(Copying::Get {
+            StageStep::More(Copying::Get {
                 root,
                 at: behind,
                 first,
                 later,
             })
         }
-        Went::Held(held, ()) => Copies::Held(
+        Went::Held(held, ()) => StageStep::Held(
             held,
             Copying::Set {
                 root,

@@ -20,7 +20,8 @@ ghost use Rattle.lane_core.specs.declared.context.Stage.{Stage};
 use crate::access::{Owned, Refusal, counted, own_count};
 use crate::context::{Context, Stage, Turn, waits};
 use crate::notes::{at, to};
-use crate::retirement::{Ending, Ends, end};
+use crate::retirement::{Ending, end};
+use crate::stage_step::StageStep;
 use byte_view::View;
 use pool_law::{Command, Did, Held, Object, RefDid, Reply, RootId};
 use shared_pool::{Release, SharedPool, Went};
@@ -101,9 +102,9 @@ impl Context {
             HasTurned pool.now self.old self.new s command (Stage.Ending stage) result }
     {
         match end(pool, &mut self.seat, &mut self.notes, stage) {
-            Ends::More(stage) => Turn::Went(Stage::Ending(stage)),
-            Ends::Held(held, stage) => Turn::Pending(held, Stage::Ending(stage)),
-            Ends::Done => self.answer(Reply::Freed),
+            StageStep::More(stage) => Turn::Went(Stage::Ending(stage)),
+            StageStep::Held(held, stage) => Turn::Pending(held, Stage::Ending(stage)),
+            StageStep::Done(()) => self.answer(Reply::Freed),
         }
     }
 

@@ -6,7 +6,8 @@ ghost use Rattle.lane_core.specs.Crossings.{HasCrossed, MayCross, NextOf, left_o
 ghost use Rattle.lane_core.specs.declared.crossing.Crossing.{Crossing};
 
 use crate::notes::{at, write};
-use pool_law::{Bytes, Did, Held, Note, Object, Part};
+use crate::stage_step::StageStep;
+use pool_law::{Bytes, Did, Note, Object, Part};
 use shared_pool::{PoolSeat, SharedPool, Went};
 
 /// A part whose bytes are set or got, with the memory for the note of that.
@@ -25,15 +26,12 @@ pub enum Crossing {
     Get(Stretch, Vec<Stretch>, Vec<u8>),
 }
 
-/// What a step over a range came to.
-pub enum Crosses {
-    More(Crossing),
-    /// Another seat was there; the same is to be tried again.
-    Held(Held, Crossing),
-    /// All parts are set.
-    WasSet,
-    /// All parts are got, and these are their bytes.
-    WasGot(Vec<u8>),
+/// What the parts of a range answer, once all are done.
+pub enum Crossed {
+    /// They are set.
+    Set,
+    /// They are got, and these are their bytes.
+    Got(Vec<u8>),
 }
 
 /// Does the next part, and writes its note into the log.
@@ -42,7 +40,7 @@ pub fn cross(
     seat: &mut PoolSeat,
     log: &mut Vec<Note>,
     stage: Crossing,
-) -> Crosses
+) -> StageStep<Crossing, Crossed>
     requires may { MayCross pool.now seat.old stage }
     requires room { length log.old.items + (left_of stage).notes ≤ vec_capacity log.old }
     ensures { HasCrossed pool.now seat.old seat.new log.old log.new stage result }
@@ -59,7 +57,7 @@ fn set_next(
     log: &mut Vec<Note>,
     first: Stretch,
     later: Vec<Stretch>,
-) -> Crosses
+) -> StageStep<Crossing, Crossed>
     requires may { MayCross pool.now seat.old (Crossing.Set first later) }
     requires room { length log.old.items < vec_capacity log.old }
     ensures { HasCrossed pool.now seat.old seat.new log.old log.new
@@ -76,11 +74,11 @@ fn set_next(
             let did = Did::Set { offset, bytes };
             write(log, at(Object::Root(root.place), number, did));
             match next_of(later) {
-                Some((first, later)) => Crosses::More(Crossing::Set(first, later)),
-                None => Crosses::WasSet,
+                Some((first, later)) => StageStep::More(Crossing::Set(first, later)),
+                None => StageStep::Done(Crossed::Set),
             }
         }
-        Went::Held(held, ()) => Crosses::Held(held, Crossing::Set(first, later)),
+        Went::Held(held, ()) => StageStep::Held(held, Crossing::Set(first, later)),
     }
 }
 
@@ -91,7 +89,7 @@ fn get_next(
     mut first: Stretch,
     later: Vec<Stretch>,
     mut got: Vec<u8>,
-) -> Crosses
+) -> StageStep<Crossing, Crossed>
     requires may { MayCross pool.now seat.old (Crossing.Get first later got) }
     requires room { length log.old.items < vec_capacity log.old }
     ensures { HasCrossed pool.now seat.old seat.new log.old log.new
@@ -109,11 +107,11 @@ fn get_next(
             let did = Did::Get { offset, bytes };
             write(log, at(Object::Root(root.place), number, did));
             match next_of(later) {
-                Some((first, later)) => Crosses::More(Crossing::Get(first, later, got)),
-                None => Crosses::WasGot(got),
+                Some((first, later)) => StageStep::More(Crossing::Get(first, later, got)),
+                None => StageStep::Done(Crossed::Got(got)),
             }
         }
-        Went::Held(held, ()) => Crosses::Held(held, Crossing::Get(first, later, got)),
+        Went::Held(held, ()) => StageStep::Held(held, Crossing::Get(first, later, got)),
     }
 }
 

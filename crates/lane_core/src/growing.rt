@@ -8,7 +8,8 @@ ghost use Rattle.lane_core.specs.Growings.{MayGrow, HasGrown, leaving, left_of, 
 ghost use Rattle.lane_core.specs.declared.growing.Growing.{Growing};
 
 use crate::notes::{at, lane_of, write};
-use pool_law::{Did, Held, Note, Object, Region, RegionId, RootId, Shape};
+use crate::stage_step::StageStep;
+use pool_law::{Did, Note, Object, Region, RegionId, RootId, Shape};
 use shared_pool::{Grown, PoolSeat, Put, Room, SharedPool, Went};
 use size_classes::CACHED_CLASSES;
 
@@ -28,13 +29,10 @@ pub enum Growing {
     Give(u32, Region),
 }
 
-/// What a step of that came to.
-pub enum Grows {
-    More(Growing),
-    /// Another seat was there; the same is to be tried again.
-    Held(Held, Growing),
+/// What an ask for capacity answers.
+pub enum Regrown {
     /// The root has this capacity, at least as much as was asked.
-    Done(u32),
+    Has(u32),
     /// The arena was full, and the root is as it was.
     Full,
 }
@@ -58,7 +56,7 @@ pub fn grow(
     size: u32,
     class: u32,
     stage: Growing,
-) -> Grows
+) -> StageStep<Growing, Regrown>
     requires may { MayGrow pool.now seat.old root size class stage }
     requires shape { shape.now ≡ pool.now.table.layout.shape }
     requires class { class_of (geometry_of shape.now) size ≡ Some class }
@@ -77,7 +75,12 @@ pub fn grow(
 }
 
 // Asks the root, which may have so much already, or have it from now on in its own region.
-fn ask_root(pool: &SharedPool, seat: &mut PoolSeat, log: &mut Vec<Note>, want: Want) -> Grows
+fn ask_root(
+    pool: &SharedPool,
+    seat: &mut PoolSeat,
+    log: &mut Vec<Note>,
+    want: Want,
+) -> StageStep<Growing, Regrown>
     requires may { MayGrow pool.now seat.old want.root want.size want.class Growing.Room }
     requires class { let shape = pool.now.table.layout.shape in
         class_of (geometry_of shape) want.size ≡ Some want.class }
@@ -90,17 +93,17 @@ fn ask_root(pool: &SharedPool, seat: &mut PoolSeat, log: &mut Vec<Note>, want: W
     match pool.room(seat, want.root, asked) {
         Went::Did(number, Room::Enough(capacity)) => {
             write(log, at(place, number, Did::Room { asked, capacity }));
-            Grows::Done(capacity)
+            StageStep::Done(Regrown::Has(capacity))
         }
         Went::Did(number, Room::Extended) => {
             write(log, at(place, number, Did::Extend(asked)));
-            Grows::Done(asked)
+            StageStep::Done(Regrown::Has(asked))
         }
         Went::Did(number, Room::Short(capacity)) => {
             write(log, at(place, number, Did::Room { asked, capacity }));
-            Grows::More(obtaining(want.class))
+            StageStep::More(obtaining(want.class))
         }
-        Went::Held(held, ()) => Grows::Held(held, Growing::Room),
+        Went::Held(held, ()) => StageStep::Held(held, Growing::Room),
     }
 }
 
@@ -115,7 +118,12 @@ fn obtaining(class: u32) -> Growing
     }
 }
 
-fn ask_cache(pool: &SharedPool, seat: &mut PoolSeat, log: &mut Vec<Note>, want: Want) -> Grows
+fn ask_cache(
+    pool: &SharedPool,
+    seat: &mut PoolSeat,
+    log: &mut Vec<Note>,
+    want: Want,
+) -> StageStep<Growing, Regrown>
     requires may { MayGrow pool.now seat.old want.root want.size want.class Growing.Cache }
     requires room { length log.old.items < vec_capacity log.old }
     ensures { HasGrown pool.now seat.old seat.new log.old log.new want.root want.size want.class
@@ -129,15 +137,15 @@ fn ask_cache(pool: &SharedPool, seat: &mut PoolSeat, log: &mut Vec<Note>, want: 
     match pool.pop_cached(seat, class) {
         Went::Did(number, Some(region)) => {
             write(log, at(cache, number, Did::Hit(region.id)));
-            Grows::More(Growing::Grow(region))
+            StageStep::More(Growing::Grow(region))
         }
         Went::Did(number, None) => {
             write(log, at(cache, number, Did::Miss));
-            Grows::More(Growing::Arena)
+            StageStep::More(Growing::Arena)
         }
         Went::Held(held, ()) => {
             write(log, Note::Busy(held));
-            Grows::More(Growing::Arena)
+            StageStep::More(Growing::Arena)
         }
     }
 }
@@ -148,7 +156,7 @@ fn ask_arena(
     seat: &mut PoolSeat,
     log: &mut Vec<Note>,
     want: Want,
-) -> Grows
+) -> StageStep<Growing, Regrown>
     requires may { MayGrow pool.now seat.old want.root want.size want.class Growing.Arena }
     requires shape { shape.now ≡ pool.now.table.layout.shape }
     requires class { want.class < class_count (geometry_of shape.now) }
@@ -165,13 +173,13 @@ fn ask_arena(
                 region: region.id,
             };
             write(log, at(arena, number, did));
-            Grows::More(Growing::Grow(region))
+            StageStep::More(Growing::Grow(region))
         }
         Went::Did(number, None) => {
             write(log, at(arena, number, Did::Full { class }));
-            Grows::Full
+            StageStep::Done(Regrown::Full)
         }
-        Went::Held(held, ()) => Grows::Held(held, Growing::Arena),
+        Went::Held(held, ()) => StageStep::Held(held, Growing::Arena),
     }
 }
 
@@ -183,7 +191,7 @@ fn grow_into(
     log: &mut Vec<Note>,
     want: Want,
     region: Region,
-) -> Grows
+) -> StageStep<Growing, Regrown>
     requires may { MayGrow pool.now seat.old want.root want.size want.class (Growing.Grow region) }
     requires size { want.size ≤ size_at want.class }
     requires room { length log.old.items < vec_capacity log.old }
@@ -196,11 +204,11 @@ fn grow_into(
     match pool.grow(seat, want.root, asked, region) {
         Went::Did(number, Grown::Enough(capacity, region)) => {
             write(log, at(place, number, Did::Room { asked, capacity }));
-            Grows::More(leaving(capacity, region))
+            StageStep::More(leaving(capacity, region))
         }
         Went::Did(number, Grown::Extended(region)) => {
             write(log, at(place, number, Did::Extend(asked)));
-            Grows::More(leaving(asked, region))
+            StageStep::More(leaving(asked, region))
         }
         Went::Did(number, Grown::Replaced(left)) => {
             let used = RegionId {
@@ -212,9 +220,9 @@ fn grow_into(
                 region: used,
             };
             write(log, at(place, number, did));
-            Grows::More(leaving(asked, left))
+            StageStep::More(leaving(asked, left))
         }
-        Went::Held(held, region) => Grows::Held(held, Growing::Grow(region)),
+        Went::Held(held, region) => StageStep::Held(held, Growing::Grow(region)),
     }
 }
 
@@ -236,7 +244,7 @@ fn put_away(
     want: Want,
     capacity: u32,
     region: Region,
-) -> Grows
+) -> StageStep<Growing, Regrown>
     requires may { MayGrow pool.now seat.old want.root want.size want.class
         (Growing.Put capacity region) }
     requires room { length log.old.items < vec_capacity log.old }
@@ -251,15 +259,15 @@ fn put_away(
     match pool.put_cached(seat, region) {
         Went::Did(number, Put::Kept) => {
             write(log, at(cache, number, Did::Kept(id)));
-            Grows::Done(capacity)
+            StageStep::Done(Regrown::Has(capacity))
         }
         Went::Did(number, Put::Back(no, region)) => {
             write(log, at(cache, number, Did::Back { region: id, no }));
-            Grows::More(Growing::Give(capacity, region))
+            StageStep::More(Growing::Give(capacity, region))
         }
         Went::Held(held, region) => {
             write(log, Note::Busy(held));
-            Grows::More(Growing::Give(capacity, region))
+            StageStep::More(Growing::Give(capacity, region))
         }
     }
 }
@@ -271,7 +279,7 @@ fn give_back(
     want: Want,
     capacity: u32,
     region: Region,
-) -> Grows
+) -> StageStep<Growing, Regrown>
     requires may { MayGrow pool.now seat.old want.root want.size want.class
         (Growing.Give capacity region) }
     requires room { length log.old.items < vec_capacity log.old }
@@ -283,8 +291,8 @@ fn give_back(
     match pool.give(seat, region) {
         Went::Did(number, ()) => {
             write(log, at(arena, number, Did::Give(id)));
-            Grows::Done(capacity)
+            StageStep::Done(Regrown::Has(capacity))
         }
-        Went::Held(held, region) => Grows::Held(held, Growing::Give(capacity, region)),
+        Went::Held(held, region) => StageStep::Held(held, Growing::Give(capacity, region)),
     }
 }

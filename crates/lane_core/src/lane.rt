@@ -118,10 +118,12 @@ impl Lane {
         })
     }
 
-    /// Does the next thing that the lane has to do: at most one section, and at most one step on a
-    /// reference word. The gate is asked once before each command, until it stops the lane. From
-    /// then on each command is answered `Stopped`, and a `send` still posts one empty parcel, so that
-    /// no lane waits for ever; nothing is fetched, and what the lane has bound and counts stays.
+    /// Does the next thing that the lane has to do. It notes at most one section or busy mark, and at
+    /// most one step on a reference word; by reading it enters no section that it doesn't note.
+    ///
+    /// The gate is asked once before each command, until it stops the lane. From then on each command
+    /// is answered `Stopped`, and a `send` still posts one empty parcel, so that no lane waits for
+    /// ever; nothing is fetched, and what the lane has bound and counts stays.
     pub fn step<W: Wait, G: Gate>(
         &mut self,
         rt: &W,

@@ -13,7 +13,8 @@ ghost use Rattle.lane_core.specs.declared.context.Turn.{Turn};
 use crate::access::{Refusal, counted};
 use crate::bound::Bound;
 use crate::context::{Context, Stage, Turn};
-use crate::growing::{Growing, Grows, grow};
+use crate::growing::{Growing, Regrown, grow};
+use crate::stage_step::StageStep;
 use byte_view::View;
 use pool_law::{Command, Reply};
 use shared_pool::SharedPool;
@@ -62,7 +63,7 @@ impl Context {
     {
         self.asked = asked_with(&stage, self.asked);
         let root = view.at.root;
-        let grows = grow(
+        let step = grow(
             pool,
             &self.shape,
             &mut self.seat,
@@ -72,15 +73,15 @@ impl Context {
             class,
             stage,
         );
-        match grows {
-            Grows::More(stage) => Turn::Went(Stage::Growing {
+        match step {
+            StageStep::More(stage) => Turn::Went(Stage::Growing {
                 name,
                 view,
                 size,
                 class,
                 stage,
             }),
-            Grows::Held(held, stage) => {
+            StageStep::Held(held, stage) => {
                 let next = Stage::Growing {
                     name,
                     view,
@@ -90,12 +91,12 @@ impl Context {
                 };
                 Turn::Pending(held, next)
             }
-            Grows::Done(capacity) => {
+            StageStep::Done(Regrown::Has(capacity)) => {
                 view.reach(capacity);
                 self.names.bind(name, Bound::Plain(view));
                 self.conclude(Reply::OkNumber(capacity))
             }
-            Grows::Full => self.conclude(Reply::Full),
+            StageStep::Done(Regrown::Full) => self.conclude(Reply::Full),
         }
     }
 }

@@ -7,8 +7,9 @@ ghost use Rattle.lane_core.specs.declared.releasing.Releasing.{Releasing};
 
 use crate::counts::OwnCounts;
 use crate::notes::{to, write};
-use crate::retirement::{Ending, Ends, end};
-use pool_law::{Held, Note, Part, RefDid, RootId};
+use crate::retirement::{Ending, end};
+use crate::stage_step::StageStep;
+use pool_law::{Note, Part, RefDid, RootId};
 use shared_pool::{PoolSeat, Release, SharedPool};
 
 /// What is still to be released: first what is left of a root that ended, and then these parts.
@@ -17,23 +18,15 @@ pub struct Releasing {
     pub left: Vec<Part>,
 }
 
-/// What a step of releasing came to.
-pub enum Releases {
-    More(Releasing),
-    /// Another seat was there; the same is to be tried again.
-    Held(Held, Releasing),
-    /// No part is left of which the lane counts the root. Nothing was noted.
-    Done,
-}
-
-/// Does the next thing, and writes its notes into the log.
+/// Does the next thing, and writes its notes into the log. It is done where no part is left whose
+/// root the lane counts: then nothing is noted.
 pub(crate) fn release(
     pool: &SharedPool,
     seat: &mut PoolSeat,
     counts: &mut OwnCounts,
     log: &mut Vec<Note>,
     stage: Releasing,
-) -> Releases
+) -> StageStep<Releasing, ()>
     requires may { MayRelease pool.now seat.old counts.old stage }
     requires room { length log.old.items + (left_of stage).notes ≤ vec_capacity log.old }
     ensures { HasReleased pool.now seat.old seat.new counts.old counts.new log.old log.new
@@ -42,24 +35,24 @@ pub(crate) fn release(
     let Releasing { ending, mut left } = stage;
     if let Some(ending) = ending {
         return match end(pool, seat, log, ending) {
-            Ends::More(ending) => Releases::More(ended_with(Some(ending), left)),
-            Ends::Held(held, ending) => Releases::Held(held, ended_with(Some(ending), left)),
-            Ends::Done => Releases::More(ended_with(None, left)),
+            StageStep::More(ending) => StageStep::More(ended_with(Some(ending), left)),
+            StageStep::Held(held, ending) => StageStep::Held(held, ended_with(Some(ending), left)),
+            StageStep::Done(()) => StageStep::More(ended_with(None, left)),
         };
     }
     let Some(root) = next_counted(counts, &mut left) else {
-        return Releases::Done;
+        return StageStep::Done(());
     };
     let release = pool.release(seat, root);
     counts.take(root);
     match release {
         Release::Kept => {
             write(log, to(root, RefDid::Kept));
-            Releases::More(ended_with(None, left))
+            StageStep::More(ended_with(None, left))
         }
         Release::Ended(token) => {
             write(log, to(root, RefDid::Ended));
-            Releases::More(ended_with(Some(Ending::Root(token)), left))
+            StageStep::More(ended_with(Some(Ending::Root(token)), left))
         }
     }
 }

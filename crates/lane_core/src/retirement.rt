@@ -7,8 +7,9 @@ ghost use Rattle.lane_core.specs.declared.retirement.Ending.{Ending};
 ghost use Rattle.lane_core.specs.Endings.{MayEnd, HasEnded, left_of};
 
 use crate::notes::{at, to, write};
+use crate::stage_step::StageStep;
 use handle_bin::Handle;
-use pool_law::{Did, Held, Note, Object, RefDid, Region};
+use pool_law::{Did, Note, Object, RefDid, Region};
 use pool_table::EndToken;
 use shared_pool::{PoolSeat, Put, Retired, SharedPool, Went};
 use size_classes::CACHED_CLASSES;
@@ -25,17 +26,14 @@ pub enum Ending {
     Home(Handle),
 }
 
-/// What a step at the end of a root came to.
-pub enum Ends {
-    More(Ending),
-    /// Another seat was there; the same is to be tried again.
-    Held(Held, Ending),
-    /// Nothing of the root is left in the seat's hands.
-    Done,
-}
-
-/// Does the next thing at the end of a root, and writes its notes into the log.
-pub fn end(pool: &SharedPool, seat: &mut PoolSeat, log: &mut Vec<Note>, stage: Ending) -> Ends
+/// Does the next thing at the end of a root, and writes its notes into the log. Once it is done,
+/// nothing of the root is left in the seat's hands.
+pub fn end(
+    pool: &SharedPool,
+    seat: &mut PoolSeat,
+    log: &mut Vec<Note>,
+    stage: Ending,
+) -> StageStep<Ending, ()>
     requires may { MayEnd pool.now seat.old stage }
     requires room { length log.old.items + (left_of stage).notes ≤ vec_capacity log.old }
     ensures { HasEnded pool.now seat.old seat.new log.old log.new stage result }
@@ -48,7 +46,12 @@ pub fn end(pool: &SharedPool, seat: &mut PoolSeat, log: &mut Vec<Note>, stage: E
     }
 }
 
-fn retire(pool: &SharedPool, seat: &mut PoolSeat, log: &mut Vec<Note>, token: EndToken) -> Ends
+fn retire(
+    pool: &SharedPool,
+    seat: &mut PoolSeat,
+    log: &mut Vec<Note>,
+    token: EndToken,
+) -> StageStep<Ending, ()>
     requires may { MayEnd pool.now seat.old (Ending.Root token) }
     requires room { length log.old.items + 2 ≤ vec_capacity log.old }
     ensures { HasEnded pool.now seat.old seat.new log.old log.new (Ending.Root token) result }
@@ -62,9 +65,9 @@ fn retire(pool: &SharedPool, seat: &mut PoolSeat, log: &mut Vec<Note>, token: En
     write(log, at(Object::Root(root.place), number, Did::End(root)));
     write(log, to(root, RefDid::Vacated));
     if region.id.class < CACHED_CLASSES {
-        Ends::More(Ending::Cache(region, handle))
+        StageStep::More(Ending::Cache(region, handle))
     } else {
-        Ends::More(Ending::Arena(region, handle))
+        StageStep::More(Ending::Arena(region, handle))
     }
 }
 
@@ -74,7 +77,7 @@ fn put_away(
     log: &mut Vec<Note>,
     region: Region,
     handle: Handle,
-) -> Ends
+) -> StageStep<Ending, ()>
     requires may { MayEnd pool.now seat.old (Ending.Cache region handle) }
     requires room { length log.old.items < vec_capacity log.old }
     ensures { HasEnded pool.now seat.old seat.new log.old log.new
@@ -88,15 +91,15 @@ fn put_away(
     match pool.put_cached(seat, region) {
         Went::Did(number, Put::Kept) => {
             write(log, at(cache, number, Did::Kept(id)));
-            Ends::More(Ending::Home(handle))
+            StageStep::More(Ending::Home(handle))
         }
         Went::Did(number, Put::Back(no, region)) => {
             write(log, at(cache, number, Did::Back { region: id, no }));
-            Ends::More(Ending::Arena(region, handle))
+            StageStep::More(Ending::Arena(region, handle))
         }
         Went::Held(held, region) => {
             write(log, Note::Busy(held));
-            Ends::More(Ending::Arena(region, handle))
+            StageStep::More(Ending::Arena(region, handle))
         }
     }
 }
@@ -107,7 +110,7 @@ fn give_back(
     log: &mut Vec<Note>,
     region: Region,
     handle: Handle,
-) -> Ends
+) -> StageStep<Ending, ()>
     requires may { MayEnd pool.now seat.old (Ending.Arena region handle) }
     requires room { length log.old.items < vec_capacity log.old }
     ensures { HasEnded pool.now seat.old seat.new log.old log.new
@@ -118,13 +121,18 @@ fn give_back(
     match pool.give(seat, region) {
         Went::Did(number, ()) => {
             write(log, at(arena, number, Did::Give(id)));
-            Ends::More(Ending::Home(handle))
+            StageStep::More(Ending::Home(handle))
         }
-        Went::Held(held, region) => Ends::Held(held, Ending::Arena(region, handle)),
+        Went::Held(held, region) => StageStep::Held(held, Ending::Arena(region, handle)),
     }
 }
 
-fn go_home(pool: &SharedPool, seat: &mut PoolSeat, log: &mut Vec<Note>, handle: Handle) -> Ends
+fn go_home(
+    pool: &SharedPool,
+    seat: &mut PoolSeat,
+    log: &mut Vec<Note>,
+    handle: Handle,
+) -> StageStep<Ending, ()>
     requires may { MayEnd pool.now seat.old (Ending.Home handle) }
     requires room { length log.old.items < vec_capacity log.old }
     ensures { HasEnded pool.now seat.old seat.new log.old log.new (Ending.Home handle) result }
@@ -134,8 +142,8 @@ fn go_home(pool: &SharedPool, seat: &mut PoolSeat, log: &mut Vec<Note>, handle: 
     match pool.put_handle(seat, handle) {
         Went::Did(number, ()) => {
             write(log, at(bin, number, Did::Home(place)));
-            Ends::Done
+            StageStep::Done(())
         }
-        Went::Held(held, handle) => Ends::Held(held, Ending::Home(handle)),
+        Went::Held(held, handle) => StageStep::Held(held, Ending::Home(handle)),
     }
 }

@@ -9,13 +9,14 @@ ghost use Rattle.lane_core.specs.ContextSteps.{CanAnswer, Concludes, HasMarked, 
 ghost use Rattle.lane_core.specs.Works.{IsReady, WorkTurns, left_of};
 ghost use Rattle.lane_core.specs.declared.context.Stage.{Stage};
 
-use crate::allotment::{Allots, Allotting, allot};
+use crate::allotment::{Allotted, Allotting, allot};
 use crate::bound::Bound;
 use crate::composed::{Composed, Marks};
 use crate::context::{Context, Stage, Turn, asked_with};
-use crate::copying::{Copies, Copying, copy};
-use crate::crossing::{Crosses, Crossing, cross, next_of};
-use crate::releasing::{Releases, Releasing, release, unfinished};
+use crate::copying::{Copying, copy};
+use crate::crossing::{Crossed, Crossing, cross, next_of};
+use crate::releasing::{Releasing, release, unfinished};
+use crate::stage_step::StageStep;
 use crate::work::{Consolidation, Work};
 use pool_law::{Bytes, Part, Reply, RootId};
 use shared_pool::SharedPool;
@@ -120,16 +121,16 @@ impl Context {
         ensures { StageTurns pool.now self.old self.new (Stage.Crossing name marks stage) result }
     {
         match cross(pool, &mut self.seat, &mut self.notes, stage) {
-            Crosses::More(stage) => Turn::Went(Stage::Crossing { name, marks, stage }),
-            Crosses::Held(held, stage) => {
+            StageStep::More(stage) => Turn::Went(Stage::Crossing { name, marks, stage }),
+            StageStep::Held(held, stage) => {
                 let next = Stage::Crossing { name, marks, stage };
                 Turn::Pending(held, next)
             }
-            Crosses::WasSet => {
+            StageStep::Done(Crossed::Set) => {
                 self.mark(name, marks);
                 self.answer(Reply::Ok)
             }
-            Crosses::WasGot(got) => {
+            StageStep::Done(Crossed::Got(got)) => {
                 self.mark(name, marks);
                 self.answer(Reply::OkBytes(Bytes::of(got)))
             }
@@ -148,9 +149,9 @@ impl Context {
             &mut self.notes,
             stage,
         ) {
-            Releases::More(stage) => Turn::Went(Stage::Parting { name, stage }),
-            Releases::Held(held, stage) => Turn::Pending(held, Stage::Parting { name, stage }),
-            Releases::Done => self.recount(name, 0, Reply::Freed),
+            StageStep::More(stage) => Turn::Went(Stage::Parting { name, stage }),
+            StageStep::Held(held, stage) => Turn::Pending(held, Stage::Parting { name, stage }),
+            StageStep::Done(()) => self.recount(name, 0, Reply::Freed),
         }
     }
 
@@ -165,7 +166,7 @@ impl Context {
         ensures { StageTurns pool.now self.old self.new (Stage.Consolidating plan stage) result }
     {
         self.asked = asked_with(&stage, self.asked);
-        let allots = allot(
+        let step = allot(
             pool,
             &self.shape,
             &mut self.seat,
@@ -175,15 +176,18 @@ impl Context {
             plan.class,
             stage,
         );
-        match allots {
-            Allots::More(stage) => Turn::Went(Stage::Consolidating { plan, stage }),
-            Allots::Held(held, stage) => Turn::Pending(held, Stage::Consolidating { plan, stage }),
-            Allots::New(root, _) => {
+        match step {
+            StageStep::More(stage) => Turn::Went(Stage::Consolidating { plan, stage }),
+            StageStep::Held(held, stage) => {
+                let next = Stage::Consolidating { plan, stage };
+                Turn::Pending(held, next)
+            }
+            StageStep::Done(Allotted::New(root, _region)) => {
                 self.counts.add(root);
                 Turn::Went(copying_to(root, plan))
             }
-            Allots::NoHandle => self.conclude(Reply::Handles),
-            Allots::Full => self.conclude(Reply::Full),
+            StageStep::Done(Allotted::NoHandle) => self.conclude(Reply::Handles),
+            StageStep::Done(Allotted::Full) => self.conclude(Reply::Full),
         }
     }
 
@@ -201,13 +205,13 @@ impl Context {
             (Stage.Copying name whole parts stage) result }
     {
         match copy(pool, &mut self.seat, &mut self.notes, stage) {
-            Copies::More(stage) => Turn::Went(Stage::Copying {
+            StageStep::More(stage) => Turn::Went(Stage::Copying {
                 name,
                 whole,
                 parts,
                 stage,
             }),
-            Copies::Held(held, stage) => {
+            StageStep::Held(held, stage) => {
                 let next = Stage::Copying {
                     name,
                     whole,
@@ -216,7 +220,7 @@ impl Context {
                 };
                 Turn::Pending(held, next)
             }
-            Copies::Done => {
+            StageStep::Done(()) => {
                 let stage = all_of(parts);
                 Turn::Went(Stage::Replacing { name, whole, stage })
             }
@@ -242,15 +246,15 @@ impl Context {
             &mut self.notes,
             stage,
         ) {
-            Releases::More(stage) => match unfinished(&self.counts, stage) {
+            StageStep::More(stage) => match unfinished(&self.counts, stage) {
                 Some(stage) => Turn::Went(Stage::Replacing { name, whole, stage }),
                 None => self.bind(name, whole),
             },
-            Releases::Held(held, stage) => {
+            StageStep::Held(held, stage) => {
                 let next = Stage::Replacing { name, whole, stage };
                 Turn::Pending(held, next)
             }
-            Releases::Done => unreachable!(),
+            StageStep::Done(()) => unreachable!(),
         }
     }
 }

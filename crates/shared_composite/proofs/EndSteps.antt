@@ -36,7 +36,7 @@ use Rattle.seat_work.proofs.HandLaws.{Carries, held_on}
 use Rattle.seat_work.proofs.HandNotes.{handle_goes, region_given, region_kept, region_back, marked_busy, both_come, weightless}
 use Rattle.lane_core.specs.declared.retirement.Ending.{Ending}
 use Rattle.lane_core.specs.declared.retirement.Ending.TheVariants.{Root as EndRoot, Cache as AskCache, Arena as AskArena, Home}
-use Rattle.lane_core.specs.declared.retirement.Ends.TheVariants.{More, Held as HeldBack, Done}
+use Rattle.lane_core.specs.declared.stage_step.StageStep.TheVariants.{More, Held as HeldBack, Done}
 use Rattle.lane_core.specs.Endings.{goes_home}
 use Rattle.lane_core.specs.Readings.{ReadsOn, behind, none_asked}
 use Rattle.lane_core.specs.Releasings.{hand_in, rest_in}
@@ -138,7 +138,7 @@ module _ (pool : SharedPool) (old new : PoolSeat) (is : IsPoolSeat pool new) (sa
           )
 
     pub gone_home : MayEnd pool old (Home h) → IsNoted pool old new (Bin h.lane) number (plain (Did.Home h.place))
-        → HasEnded pool old new (Home h) Done
+        → HasEnded pool old new (Home h) (Done tt)
     gone_home may noted =
         let o : Object = Bin h.lane in let n : Noted = plain (Did.Home h.place) in let e : Entry =
         note_at pool old new may.seat_is is o number n in

@@ -30,7 +30,7 @@ use Rattle.seat_work.proofs.HandNotes.{ref_carries, ended_carries, weightless}
 use Rattle.seat_work.proofs.Knowing.{knows_more, knows_same}
 use Rattle.lane_core.specs.declared.retirement.Ending.{Ending}
 use Rattle.lane_core.specs.declared.retirement.Ending.TheVariants.{Root, Cache, Arena, Home}
-use Rattle.lane_core.specs.declared.retirement.Ends.TheVariants.{Held as HeldBack}
+use Rattle.lane_core.specs.declared.stage_step.StageStep.TheVariants.{Held as HeldBack}
 use Rattle.lane_core.specs.declared.lane.Stepped.{Stepped}
 use Rattle.lane_core.specs.declared.lane.Stepped.TheVariants.{Went, Pending, Finished}
 use Rattle.lane_core.specs.Endings.{retired}

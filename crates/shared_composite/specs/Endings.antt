@@ -22,8 +22,8 @@ use Rattle.seat_work.specs.Growth.{HasMore, is_quiet_entry}
 use Rattle.seat_work.specs.Hands.{Hand, IsHeld, is_place, is_token, held_weight}
 use Rattle.lane_core.specs.declared.retirement.Ending.{Ending}
 use Rattle.lane_core.specs.declared.retirement.Ending.TheVariants.{Root, Cache, Arena, Home}
-use Rattle.lane_core.specs.declared.retirement.Ends.{Ends}
-use Rattle.lane_core.specs.declared.retirement.Ends.TheVariants.{More, Held, Done}
+use Rattle.lane_core.specs.declared.stage_step.StageStep.{StageStep}
+use Rattle.lane_core.specs.declared.stage_step.StageStep.TheVariants.{More, Held, Done}
 use Rattle.lane_core.specs.Readings.{ReadsOn, none_asked}
 use Rattle.lane_core.specs.Releasings.{hand_in, rest_in}
 
@@ -53,10 +53,10 @@ pub record HasOnly (hand : Hand) (v : SeatView) : Type 0 where
   pub tokens : (root : RootId) → HasToken root v → is_token root hand.token ≡ 1
 
 -- what is left behind a step
-abbrev pub after : Ends → Option Ending
+abbrev pub after : StageStep Ending (Unit {0}) → Option Ending
 after (More next) = Some next
 after (Held held again) = Some again
-after Done = None
+after (Done answer) = None
 
 -- a seat of the pool that has just this of an end in hand, and a turn left
 pub record MayEnd (pool : SharedPool) (seat : PoolSeat) (stage : Ending) : Type 0 where
@@ -92,9 +92,11 @@ pub record StillEnds (pool : SharedPool) (old new : PoolSeat) : Type 0 where
   pub view : view_of new ≡ view_of old
 
 -- what a step did, by what it came to
-abbrev pub HasEnded : SharedPool → PoolSeat → PoolSeat → Ending → Ends → Type 0
+abbrev pub HasEnded :
+    SharedPool → PoolSeat → PoolSeat → Ending → StageStep Ending (Unit {0}) → Type 0
 HasEnded pool old new stage (More next) =
     (added : List Entry) × Ended pool old new stage (Some next) added
 HasEnded pool old new stage (Held held again) =
     (again ≡ stage) × StillEnds pool old new × FoundBusy pool held.object false old new held
-HasEnded pool old new stage Done = (added : List Entry) × Ended pool old new stage None added
+HasEnded pool old new stage (Done answer) =
+    (added : List Entry) × Ended pool old new stage None added

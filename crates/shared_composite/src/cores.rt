@@ -8,7 +8,7 @@ ghost use Rattle.shared_composite.specs.Cores.{IsFit, IsCore, IsUnderway, IsOver
 
 use crate::ending::{end, spend};
 use composite_buf::Composite;
-use lane_core::{Ending, Ends, Stepped};
+use lane_core::{Ending, StageStep, Stepped};
 use shared_pool::{PoolSeat, Release, SharedPool};
 use std::mem::replace;
 
@@ -45,9 +45,9 @@ impl Core {
         }
     }
 
-    /// Does the next thing of releasing the components: at most one section of the pool, and at most
-    /// one step on a root's count. Where a component's root ends by it, the next steps retire the
-    /// root, and put its region and its handle away.
+    /// Does the next thing of releasing the components. It notes at most one section of the pool, and
+    /// at most one step on a root's count. Where a component's root ends by it, the next steps retire
+    /// the root, and put its region and its handle away.
     ///
     /// `Went` comes only where something was noted, `Pending` only where another seat was there, and
     /// `Finished` exactly where all was done before. It never answers `Waiting`.
@@ -72,15 +72,15 @@ impl Core {
         ensures unfinished { result ≡ Finished → ⊥ }
     {
         match end(pool, &mut self.seat, stage) {
-            Ends::More(next) => {
+            StageStep::More(next) => {
                 self.put(next);
                 Stepped::Went
             }
-            Ends::Held(held, again) => {
+            StageStep::Held(held, again) => {
                 self.put(again);
                 Stepped::Pending(held)
             }
-            Ends::Done => Stepped::Went,
+            StageStep::Done(()) => Stepped::Went,
         }
     }
 

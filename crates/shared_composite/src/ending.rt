@@ -6,14 +6,14 @@ ghost use Rattle.shared_composite.specs.Endings.{MayEnd, HasEnded};
 ghost use Rattle.lane_core.specs.declared.retirement.Ending.{Ending};
 
 use handle_bin::Handle;
-use lane_core::{Ending, Ends};
+use lane_core::{Ending, StageStep};
 use pool_law::Region;
 use pool_table::EndToken;
 use shared_pool::{PoolSeat, Put, Retired, SharedPool, Went};
 use size_classes::CACHED_CLASSES;
 
 /// Does the next thing at the end of a root.
-pub(crate) fn end(pool: &SharedPool, seat: &mut PoolSeat, stage: Ending) -> Ends
+pub(crate) fn end(pool: &SharedPool, seat: &mut PoolSeat, stage: Ending) -> StageStep<Ending, ()>
     requires { MayEnd pool.now seat.old stage }
     ensures { HasEnded pool.now seat.old seat.new stage result }
 {
@@ -26,7 +26,7 @@ pub(crate) fn end(pool: &SharedPool, seat: &mut PoolSeat, stage: Ending) -> Ends
 }
 
 // The root's end is noted, and its region and the handle of its place come.
-fn retire(pool: &SharedPool, seat: &mut PoolSeat, token: EndToken) -> Ends
+fn retire(pool: &SharedPool, seat: &mut PoolSeat, token: EndToken) -> StageStep<Ending, ()>
     requires { MayEnd pool.now seat.old (Ending.Root token) }
     ensures { HasEnded pool.now seat.old seat.new (Ending.Root token) result }
 {
@@ -36,43 +36,53 @@ fn retire(pool: &SharedPool, seat: &mut PoolSeat, token: EndToken) -> Ends
         handle,
     } = pool.retire(seat, token);
     if region.id.class < CACHED_CLASSES {
-        Ends::More(Ending::Cache(region, handle))
+        StageStep::More(Ending::Cache(region, handle))
     } else {
-        Ends::More(Ending::Arena(region, handle))
+        StageStep::More(Ending::Arena(region, handle))
     }
 }
 
 // The region goes into its owner's cache, or comes back for its arena.
-fn put_away(pool: &SharedPool, seat: &mut PoolSeat, region: Region, handle: Handle) -> Ends
+fn put_away(
+    pool: &SharedPool,
+    seat: &mut PoolSeat,
+    region: Region,
+    handle: Handle,
+) -> StageStep<Ending, ()>
     requires { MayEnd pool.now seat.old (Ending.Cache region handle) }
     ensures { HasEnded pool.now seat.old seat.new (Ending.Cache region handle) result }
 {
     match pool.put_cached(seat, region) {
-        Went::Did(_number, Put::Kept) => Ends::More(Ending::Home(handle)),
-        Went::Did(_number, Put::Back(_no, region)) => Ends::More(Ending::Arena(region, handle)),
-        Went::Held(_held, region) => Ends::More(Ending::Arena(region, handle)),
+        Went::Did(_note, Put::Kept) => StageStep::More(Ending::Home(handle)),
+        Went::Did(_note, Put::Back(_no, region)) => StageStep::More(Ending::Arena(region, handle)),
+        Went::Held(_held, region) => StageStep::More(Ending::Arena(region, handle)),
     }
 }
 
 // The region goes back to its arena.
-fn give_back(pool: &SharedPool, seat: &mut PoolSeat, region: Region, handle: Handle) -> Ends
+fn give_back(
+    pool: &SharedPool,
+    seat: &mut PoolSeat,
+    region: Region,
+    handle: Handle,
+) -> StageStep<Ending, ()>
     requires { MayEnd pool.now seat.old (Ending.Arena region handle) }
     ensures { HasEnded pool.now seat.old seat.new (Ending.Arena region handle) result }
 {
     match pool.give(seat, region) {
-        Went::Did(_number, ()) => Ends::More(Ending::Home(handle)),
-        Went::Held(held, region) => Ends::Held(held, Ending::Arena(region, handle)),
+        Went::Did(_number, ()) => StageStep::More(Ending::Home(handle)),
+        Went::Held(held, region) => StageStep::Held(held, Ending::Arena(region, handle)),
     }
 }
 
 // The handle goes home.
-fn go_home(pool: &SharedPool, seat: &mut PoolSeat, handle: Handle) -> Ends
+fn go_home(pool: &SharedPool, seat: &mut PoolSeat, handle: Handle) -> StageStep<Ending, ()>
     requires { MayEnd pool.now seat.old (Ending.Home handle) }
     ensures { HasEnded pool.now seat.old seat.new (Ending.Home handle) result }
 {
     match pool.put_handle(seat, handle) {
-        Went::Did(_number, ()) => Ends::Done,
-        Went::Held(held, handle) => Ends::Held(held, Ending::Home(handle)),
+        Went::Did(_number, ()) => StageStep::Done(()),
+        Went::Held(held, handle) => StageStep::Held(held, Ending::Home(handle)),
     }
 }
 

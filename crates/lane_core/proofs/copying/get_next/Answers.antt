@@ -8,7 +8,7 @@ use Rattle.pool_law.specs.Dids as says
 use Rattle.shared_pool.specs.SeatViews.{view_of}
 use Rattle.lane_core.proofs.NextNotes.{then_begins, access_begins}
 use Rattle.lane_core.specs.declared.copying.Copying.TheVariants.{Get}
-use Rattle.lane_core.specs.declared.copying.Copies.TheVariants.{Held as HeldBack}
+use Rattle.lane_core.specs.declared.stage_step.StageStep.TheVariants.{Held as HeldBack}
 use Rattle.lane_core.specs.Copyings.{HasCopied}
 use Rattle.lane_core.proofs.CopySteps.{first_within, first_range, copy_got, copy_held}
 use Rattle.lane_core.proofs.VecLaws.{with_own_items}

@@ -7,7 +7,7 @@ use Rattle.pool_law.specs.declared.note.Object.TheVariants.{Root}
 use Rattle.shared_pool.specs.SeatViews.{view_of}
 use Rattle.lane_core.proofs.NextNotes.{got_begins}
 use Rattle.lane_core.specs.declared.crossing.Crossing.TheVariants.{Get}
-use Rattle.lane_core.specs.declared.crossing.Crosses.TheVariants.{Held as HeldBack}
+use Rattle.lane_core.specs.declared.stage_step.StageStep.TheVariants.{Held as HeldBack}
 use Rattle.lane_core.specs.Crossings.{HasCrossed, bytes_of, parts_of}
 use Rattle.lane_core.proofs.CrossSteps.{first_counts, first_range, get_more, get_last, cross_held}
 use Rattle.lane_core.proofs.VecLaws.{with_own_items}

@@ -8,7 +8,7 @@ use Rattle.shared_pool.specs.declared.went.Room.{Room}
 use Rattle.lane_core.specs.Growings.{HasGrown}
 use Rattle.lane_core.specs.declared.growing.Growing.{Growing}
 use Rattle.lane_core.specs.declared.growing.Growing.TheVariants.{Room as AskRoom}
-use Rattle.lane_core.specs.declared.growing.Grows.TheVariants.{More}
+use Rattle.lane_core.specs.declared.stage_step.StageStep.TheVariants.{More}
 use Rattle.lane_core.proofs.NextNotes.{then_begins, room_begins}
 use Rattle.lane_core.proofs.GrowAsks.{room_enough, room_extended, room_short}
 use Rattle.lane_core.proofs.GrowSteps.{grow_held}

@@ -12,7 +12,7 @@ use Rattle.seat_work.proofs.Holds.{holds_region}
 use Rattle.lane_core.specs.Growings.{HasGrown, leaving}
 use Rattle.lane_core.specs.declared.growing.Growing.{Growing}
 use Rattle.lane_core.specs.declared.growing.Growing.TheVariants.{Grow}
-use Rattle.lane_core.specs.declared.growing.Grows.TheVariants.{More}
+use Rattle.lane_core.specs.declared.stage_step.StageStep.TheVariants.{More}
 use Rattle.lane_core.proofs.GrowEnds.{grow_found, grow_extended, grow_replaced}
 use Rattle.lane_core.proofs.GrowSteps.{grow_held}
 use Rattle.lane_core.proofs.NextNotes.{then_begins, grown_begins}

@@ -9,7 +9,7 @@ use Rattle.seat_work.specs.Hands.{empty_hand}
 use Rattle.seat_work.proofs.Holds.{holds_region}
 use Rattle.lane_core.specs.Growings.{HasGrown}
 use Rattle.lane_core.specs.declared.growing.Growing.TheVariants as stage
-use Rattle.lane_core.specs.declared.growing.Grows.TheVariants.{More}
+use Rattle.lane_core.specs.declared.stage_step.StageStep.TheVariants.{More}
 use Rattle.lane_core.proofs.GrowEnds.{kept_there, came_back, away_busy}
 use Rattle.lane_core.proofs.growing.put_away.Goals as goal
 

@@ -6,7 +6,7 @@ use Rattle.shared_pool.specs.declared.went.Release.{Release}
 use Rattle.shared_pool.specs.RootNotes.{IsReleasedAs}
 use Rattle.lane_core.specs.declared.retirement.Ending.{Ending}
 use Rattle.lane_core.specs.declared.releasing.Releasing.{Releasing}
-use Rattle.lane_core.specs.declared.releasing.Releases.TheVariants.{More, Held as HeldBack, Done}
+use Rattle.lane_core.specs.declared.stage_step.StageStep.TheVariants.{More, Held as HeldBack, Done}
 use Rattle.lane_core.specs.Logs.{HasWritten}
 use Rattle.lane_core.specs.Releasings.{MayRelease, HasReleased, left_of}
 use Rattle.lane_core.proofs.SeatCounts.{has_count}
@@ -112,5 +112,6 @@ returns-in_default-next_counted c =
     let pool = c.args.pool.now in let seat = c.args.seat.now in let cs = c.args.counts.now in
     let left = c.args.stage.left in let log = c.args.log.now in
     let may = subst (λ (e : Option Ending). MayRelease pool seat cs (stage_of e left)) c.in_default.is c.requires.may in
-    subst (λ (e : Option Ending). HasReleased pool seat seat cs cs log log (stage_of e left) Done) (sym c.in_default.is)
+    subst (λ (e : Option Ending). HasReleased pool seat seat cs cs log log (stage_of e left) (Done tt))
+    (sym c.in_default.is)
     (all_passed pool seat cs left c.next_counted.new.left log may c.in_default-next_counted.ensures)

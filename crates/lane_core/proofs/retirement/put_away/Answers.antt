@@ -6,7 +6,7 @@ use Rattle.shared_pool.specs.Notes.{plain}
 use Rattle.shared_pool.specs.Seats.{IsNoted}
 use Rattle.shared_pool.specs.declared.went.Put.{Put}
 use Rattle.lane_core.specs.declared.retirement.Ending.TheVariants.{Cache as AskCache, Arena as AskArena, Home}
-use Rattle.lane_core.specs.declared.retirement.Ends.TheVariants.{More}
+use Rattle.lane_core.specs.declared.stage_step.StageStep.TheVariants.{More}
 use Rattle.lane_core.specs.Endings.{HasEnded, hand_of}
 use Rattle.lane_core.proofs.EndSteps.{kept_there, came_back, away_busy}
 use Rattle.seat_work.proofs.Holds.{holds_region}

@@ -6,7 +6,7 @@ use Rattle.shared_pool.specs.Notes.{plain}
 use Rattle.shared_pool.specs.Seats.{IsNoted}
 use Rattle.shared_pool.specs.declared.went.Put.{Put}
 use Rattle.lane_core.specs.declared.retirement.Ending.TheVariants.{Cache as AskCache, Arena as AskArena}
-use Rattle.lane_core.specs.declared.retirement.Ends.TheVariants.{More}
+use Rattle.lane_core.specs.declared.stage_step.StageStep.TheVariants.{More}
 use Rattle.shared_composite.specs.Endings.{HasEnded}
 use Rattle.shared_composite.proofs.EndSteps.{kept_there, came_back, away_busy}
 use Rattle.shared_composite.proofs.ending.put_away.Goals as goal
@@ -15,19 +15,19 @@ pub returns-in-Did-default-Kept : goal.returns-in-Did-default-Kept
 returns-in-Did-default-Kept c =
     let pool = c.args.pool.now in let old = c.args.seat.now in let new = c.put_cached.new.seat in let did =
     c.in-Did-default-Kept in let id = c.args.region.id in
-    let noted = subst (λ (x : Put). IsNoted pool old new (Cache id.owner id.class) did._number (plain (was_put id x)))
+    let noted = subst (λ (x : Put). IsNoted pool old new (Cache id.owner id.class) did._note (plain (was_put id x)))
     did.field-1-is did.ensures.did in
-    kept_there pool old new did.ensures.seat did.ensures.same did._number c.args.handle c.args.region c.requires noted
+    kept_there pool old new did.ensures.seat did.ensures.same did._note c.args.handle c.args.region c.requires noted
 
 pub returns-in-Did-default-Back : goal.returns-in-Did-default-Back
 returns-in-Did-default-Back c =
     let pool = c.args.pool.now in let old = c.args.seat.now in let new = c.put_cached.new.seat in let did =
     c.in-Did-default-Back in let region = c.args.region in let handle = c.args.handle in
-    let noted = subst (λ (x : Put). IsNoted pool old new (Cache region.id.owner region.id.class) did._number
+    let noted = subst (λ (x : Put). IsNoted pool old new (Cache region.id.owner region.id.class) did._note
     (plain (was_put region.id x))) did.field-1-is did.ensures.did in
     let back = subst (λ (x : Put). IfBack x (λ no r. r ≡ region)) did.field-1-is did.ensures.back in
     subst (λ (r : Region). HasEnded pool old new (AskCache region handle) (More (AskArena r handle))) (sym back)
-    (came_back pool old new did.ensures.seat did.ensures.same did._number handle region did._no c.requires noted)
+    (came_back pool old new did.ensures.seat did.ensures.same did._note handle region did._no c.requires noted)
 
 pub returns-in-Held : goal.returns-in-Held
 returns-in-Held c =

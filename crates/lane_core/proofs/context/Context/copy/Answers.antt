@@ -1,7 +1,6 @@
 use Rattle.std.proofs.Common.{length, refl, subst}
 use Rattle.pool_law.specs.declared.command.Command.{Command}
 use Rattle.seat_work.specs.Hands.{empty_hand}
-use Rattle.lane_core.specs.declared.copying.Copies.{Copies}
 use Rattle.lane_core.specs.declared.context.Context.{Context}
 use Rattle.lane_core.specs.Copyings as copying
 use Rattle.lane_core.proofs.ConsolidateLaws.{room_beside}
@@ -26,7 +25,7 @@ returns-in-More c = λ s command are.
     let call = c.copy in
     let mid : Context = record old { seat = call.new.seat; notes = call.new.log } in
     let did =
-    subst (λ (x : Copies). copying.HasCopied pool old.seat mid.seat old.notes mid.notes stage x) c.in-More.is
+    subst (copying.HasCopied pool old.seat mid.seat old.notes mid.notes stage) c.in-More.is
     call.ensures
     in
     copy_goes pool old mid stage may.context refl refl c.args.name c.args.whole c.args.parts may.name may.fits.1
@@ -39,7 +38,7 @@ returns-in-Held c = λ s command are.
     let call = c.copy in
     let mid : Context = record old { seat = call.new.seat; notes = call.new.log } in
     let did =
-    subst (λ (x : Copies). copying.HasCopied pool old.seat mid.seat old.notes mid.notes stage x) c.in-Held.is
+    subst (copying.HasCopied pool old.seat mid.seat old.notes mid.notes stage) c.in-Held.is
     call.ensures
     in
     copy_waits pool old mid stage may.context refl refl c.args.name c.args.whole c.args.parts may.name may.fits.1
@@ -52,7 +51,7 @@ returns-in-Done c = λ s command are.
     let call = c.copy in
     let mid : Context = record old { seat = call.new.seat; notes = call.new.log } in
     let did =
-    subst (λ (x : Copies). copying.HasCopied pool old.seat mid.seat old.notes mid.notes stage x) c.in-Done.is
+    subst (copying.HasCopied pool old.seat mid.seat old.notes mid.notes stage) c.in-Done.is
     call.ensures
     in
     copy_done pool old mid stage may.context refl refl c.args.name c.args.whole c.args.parts may.name may.fits.1

@@ -2,7 +2,6 @@ use Rattle.std.proofs.Common.{refl, sym, subst}
 use Rattle.lane_core.specs.declared.context.Context.{Context}
 use Rattle.lane_core.specs.declared.context.Stage.TheVariants.{Ending}
 use Rattle.lane_core.specs.declared.context.Turn.{Turn}
-use Rattle.lane_core.specs.declared.retirement.Ends.{Ends}
 use Rattle.lane_core.specs.Endings as ending
 use Rattle.lane_core.specs.Contexts.{HasTurned}
 use Rattle.lane_core.proofs.EndTurns.{end_goes, end_waits, end_done}
@@ -30,7 +29,7 @@ returns-in-More c = λ s command are.
     let old = c.args.self.now in let mid : Context = record old { seat = c.end.new.seat; notes = c.end.new.log } in
     end_goes c.args.pool.now old mid c.args.stage c.requires.context refl c.requires.fits.1 s command are
     c.in-More.stage
-    (subst (λ (x : Ends). ending.HasEnded c.args.pool.now old.seat mid.seat old.notes mid.notes c.args.stage x)
+    (subst (ending.HasEnded c.args.pool.now old.seat mid.seat old.notes mid.notes c.args.stage)
     c.in-More.is c.end.ensures)
 
 pub returns-in-Held : goal.returns-in-Held
@@ -39,7 +38,7 @@ returns-in-Held c = λ s command are.
     end_waits c.args.pool.now old mid c.args.stage c.requires.context refl c.requires.fits.1 s command are
     c.in-Held.held
     c.in-Held.stage
-    (subst (λ (x : Ends). ending.HasEnded c.args.pool.now old.seat mid.seat old.notes mid.notes c.args.stage x)
+    (subst (ending.HasEnded c.args.pool.now old.seat mid.seat old.notes mid.notes c.args.stage)
     c.in-Held.is c.end.ensures)
 
 pub returns-in-Done : goal.returns-in-Done
@@ -49,5 +48,5 @@ returns-in-Done c = λ s command are.
     (sym c.answer.ensures.ready)
     (end_done c.args.pool.now old mid c.args.stage c.requires.context refl c.requires.fits.1 s command are
     c.answer.new.self
-    (subst (λ (x : Ends). ending.HasEnded c.args.pool.now old.seat mid.seat old.notes mid.notes c.args.stage x)
+    (subst (ending.HasEnded c.args.pool.now old.seat mid.seat old.notes mid.notes c.args.stage)
     c.in-Done.is c.end.ensures) c.answer.ensures.replied)

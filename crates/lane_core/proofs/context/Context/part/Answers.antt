@@ -3,7 +3,6 @@ use Rattle.pool_law.specs.declared.command.Command.{Command}
 use Rattle.lane_core.specs.declared.context.Context.{Context}
 use Rattle.lane_core.specs.declared.context.Stage.TheVariants.{Parting}
 use Rattle.lane_core.specs.declared.context.Turn.{Turn}
-use Rattle.lane_core.specs.declared.releasing.Releases.{Releases}
 use Rattle.lane_core.specs.Releasings as releasing
 use Rattle.lane_core.specs.Contexts.{HasTurned}
 use Rattle.lane_core.proofs.ReleaseTurns.{may_release, part_done, part_goes, part_waits, release_can}
@@ -39,8 +38,8 @@ returns-in-More c = λ s command are.
     let mid : Context = record old { seat = call.new.seat; counts = call.new.counts; notes = call.new.log } in
     part_goes c.args.pool.now old mid c.args.stage may.context refl c.args.name may.name may.fits.1 s command are
     c.in-More.stage
-    (subst (λ (x : Releases). releasing.HasReleased c.args.pool.now old.seat mid.seat old.counts mid.counts old.notes
-    mid.notes c.args.stage x) c.in-More.is call.ensures)
+    (subst (releasing.HasReleased c.args.pool.now old.seat mid.seat old.counts mid.counts old.notes
+    mid.notes c.args.stage) c.in-More.is call.ensures)
 
 pub returns-in-Held : goal.returns-in-Held
 returns-in-Held c = λ s command are.
@@ -48,8 +47,8 @@ returns-in-Held c = λ s command are.
     let mid : Context = record old { seat = call.new.seat; counts = call.new.counts; notes = call.new.log } in
     part_waits c.args.pool.now old mid c.args.stage may.context refl c.args.name may.name may.fits.1 s command are
     c.in-Held.held c.in-Held.stage
-    (subst (λ (x : Releases). releasing.HasReleased c.args.pool.now old.seat mid.seat old.counts mid.counts old.notes
-    mid.notes c.args.stage x) c.in-Held.is call.ensures)
+    (subst (releasing.HasReleased c.args.pool.now old.seat mid.seat old.counts mid.counts old.notes
+    mid.notes c.args.stage) c.in-Held.is call.ensures)
 
 pub returns-in-Done : goal.returns-in-Done
 returns-in-Done c = λ s command are.
@@ -59,5 +58,5 @@ returns-in-Done c = λ s command are.
     t) (sym c.recount.ensures.ready)
     (part_done c.args.pool.now old mid c.args.stage may.context refl c.args.name may.name may.fits.1 s command are
     c.recount.new.self
-    (subst (λ (x : Releases). releasing.HasReleased c.args.pool.now old.seat mid.seat old.counts mid.counts old.notes
-    mid.notes c.args.stage x) c.in-Done.is call.ensures) (c.recount.ensures.replied may.name.0 may.name.1))
+    (subst (releasing.HasReleased c.args.pool.now old.seat mid.seat old.counts mid.counts old.notes
+    mid.notes c.args.stage) c.in-Done.is call.ensures) (c.recount.ensures.replied may.name.0 may.name.1))

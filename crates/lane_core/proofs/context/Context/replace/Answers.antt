@@ -3,7 +3,6 @@ use Rattle.pool_law.specs.declared.command.Command.{Command}
 use Rattle.lane_core.specs.declared.context.Context.{Context}
 use Rattle.lane_core.specs.declared.context.Stage.TheVariants.{Replacing}
 use Rattle.lane_core.specs.declared.context.Turn.TheVariants.{Went}
-use Rattle.lane_core.specs.declared.releasing.Releases.{Releases}
 use Rattle.lane_core.specs.declared.releasing.Releasing.{Releasing}
 use Rattle.lane_core.specs.Releasings as releasing
 use Rattle.lane_core.specs.Contexts.{HasTurned}
@@ -42,8 +41,8 @@ returns-in-Some c = λ s command are.
     let call = c.release in
     let mid : Context = record old { seat = call.new.seat; counts = call.new.counts; notes = call.new.log } in
     let did =
-    subst (λ (x : Releases). releasing.HasReleased pool old.seat mid.seat old.counts mid.counts old.notes mid.notes
-    stage x) c.in-More.is call.ensures in
+    subst (releasing.HasReleased pool old.seat mid.seat old.counts mid.counts old.notes mid.notes
+    stage) c.in-More.is call.ensures in
     let left = c.in-Some.ensures.some in
     subst (λ (x : Releasing). HasTurned pool old mid s command (Replacing c.args.name c.args.whole stage)
     (Went (Replacing c.args.name c.args.whole x))) (sym left.0)
@@ -56,8 +55,8 @@ returns-in-None c = λ s command are.
     let call = c.release in
     let mid : Context = record old { seat = call.new.seat; counts = call.new.counts; notes = call.new.log } in
     let did =
-    subst (λ (x : Releases). releasing.HasReleased pool old.seat mid.seat old.counts mid.counts old.notes mid.notes
-    stage x) c.in-More.is call.ensures in
+    subst (releasing.HasReleased pool old.seat mid.seat old.counts mid.counts old.notes mid.notes
+    stage) c.in-More.is call.ensures in
     replace_bound pool old mid stage may.context refl c.args.name c.args.whole may.name may.fits.1 s command are
     c.bind.new.self c.in-More.stage c.in-None.ensures.none did c.bind.result
     c.bind.ensures
@@ -68,8 +67,8 @@ returns-in-Held c = λ s command are.
     let call = c.release in
     let mid : Context = record old { seat = call.new.seat; counts = call.new.counts; notes = call.new.log } in
     let did =
-    subst (λ (x : Releases). releasing.HasReleased pool old.seat mid.seat old.counts mid.counts old.notes mid.notes
-    stage x) c.in-Held.is call.ensures in
+    subst (releasing.HasReleased pool old.seat mid.seat old.counts mid.counts old.notes mid.notes
+    stage) c.in-Held.is call.ensures in
     replace_waits pool old mid stage may.context refl c.args.name c.args.whole may.name may.fits.1 s command are
     may.fits.2 c.in-Held.held c.in-Held.stage did
 
@@ -79,6 +78,6 @@ unreachable-requires c =
     let call = c.release in
     let mid : Context = record old { seat = call.new.seat; counts = call.new.counts; notes = call.new.log } in
     let did =
-    subst (λ (x : Releases). releasing.HasReleased pool old.seat mid.seat old.counts mid.counts old.notes mid.notes
-    stage x) c.in-Done.is call.ensures in
+    subst (releasing.HasReleased pool old.seat mid.seat old.counts mid.counts old.notes mid.notes
+    stage) c.in-Done.is call.ensures in
     replace_more pool old mid stage may.context refl may.fits.2 did
