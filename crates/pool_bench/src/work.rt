@@ -125,8 +125,8 @@ pub fn run<W: Wait>(
     }
 }
 
-// So many blocks of a workload in which each block stands alone. Mixed and plain blocks have a loop
-// each, in which it is known which workload it is.
+// So many blocks of a workload in which each block stands alone. Mixed blocks that draw their sizes
+// and plain blocks have a loop each, in which it is known which workload it is.
 fn run_alone<W: Wait>(
     rt: &W,
     pool: &SharedPool,
@@ -141,14 +141,46 @@ fn run_alone<W: Wait>(
     ensures { HasRun pool.now seat.old seat.new }
 {
     match work {
-        Workload::Mixed(size) => {
-            run_blocks(rt, pool, sizes, Workload::Mixed(size), blocks, draws, seat)
-        }
+        Workload::Mixed(None) => run_mixed(rt, pool, sizes, blocks, *draws, seat),
         Workload::Plain(size) => {
             run_blocks(rt, pool, sizes, Workload::Plain(size), blocks, draws, seat)
         }
         _ => run_blocks(rt, pool, sizes, work, blocks, draws, seat),
     }
+}
+
+// So many mixed blocks that draw their sizes.
+fn run_mixed<W: Wait>(
+    rt: &W,
+    pool: &SharedPool,
+    sizes: &SizeClasses,
+    blocks: u32,
+    mut draws: Draws,
+    seat: &mut PoolSeat,
+) -> Tally
+    requires sizes { sizes.now ≡ geometry_of pool.now.table.layout.shape }
+    requires may { MayRun pool.now blocks seat.old }
+    ensures { HasRun pool.now seat.old seat.new }
+{
+    let mut tally = Tally::none_of(0);
+    for _done in 0..blocks {
+        let size = 16 + draws.next() % 1009;
+        let byte = (draws.next() % 256) as u8;
+        let Some(class) = sizes.class_of(size) else {
+            tally.add(None);
+            continue;
+        };
+        let Ok(root) = allocate(rt, pool, seat, size, class, None) else {
+            tally.add(None);
+            continue;
+        };
+        set(rt, pool, seat, root, 0, &[byte, byte, byte, byte]);
+        let mut out = [0u8; 4];
+        get(rt, pool, seat, root, 2, &mut out);
+        release(rt, pool, seat, root);
+        tally.add(Some(sum_of(&out)));
+    }
+    tally
 }
 
 // So many blocks, one after another.

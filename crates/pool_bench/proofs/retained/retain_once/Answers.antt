@@ -1,4 +1,4 @@
-use Rattle.std.proofs.Common.{◌∙◌, sym, ap, subst, arith}
+use Rattle.std.proofs.Common.{◌∙◌, ap, subst, arith}
 use Rattle.pool_law.specs.declared.id.RootId.{RootId}
 use Rattle.pool_table.specs.Counts.{HasToken}
 use Rattle.shared_pool.specs.SeatViews.{view_of}
