@@ -154,9 +154,11 @@ int main(void)
     struct pool_config config = {7, THREADS, 8192, 9, 4, 1, 64, 128};
     struct pool_thread threads[THREADS] = {{0}};
     struct worker workers[THREADS] = {{0}};
-    struct pool_end end;
+    struct pool_end end = {0, 0};
     pthread_t runs[THREADS];
-    printf("open: %d\n", (int)pool_open(&config, threads, THREADS));
+    int32_t answer = pool_open(&config, threads, THREADS);
+    printf("open: %d\n", (int)answer);
+    if (answer != POOL_OK) return 1;
     for (uint32_t i = 0; i < THREADS; i++) {
         pthread_mutex_init(&channels[i].lock, NULL);
         pthread_cond_init(&channels[i].more, NULL);
@@ -171,7 +173,9 @@ int main(void)
                (unsigned long long)workers[i].read, (unsigned long long)workers[i].ended);
     }
     for (int i = 0; i < THREADS; i++) DO(pool_settle(&threads[i]));
-    printf("close: %d\n", (int)pool_close(threads, THREADS, &end));
+    answer = pool_close(threads, THREADS, &end);
+    printf("close: %d\n", (int)answer);
+    if (answer != POOL_OK) return 1;
     printf("leaks: %llu\n", (unsigned long long)end.leaks);
     return 0;
 }

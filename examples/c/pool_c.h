@@ -136,7 +136,8 @@ int32_t pool_touch(struct pool_thread *thread, const struct pool_buffer *buffer)
 
 /* Makes a parcel of a buffer, for the pool's thread of number `to`, which alone can accept it. The
    parcel has the buffer's count, so the buffer is gone. Parcels that one thread makes for another
-   are accepted in the order in which they were made. */
+   are accepted in the order in which they were made. A parcel takes memory: after POOL_NO_MEMORY the
+   buffer is as it was. */
 int32_t pool_part(struct pool_thread *thread, const struct pool_buffer *buffer, uint32_t to,
                   struct pool_parcel *out);
 
