@@ -21,6 +21,7 @@ use std::test::Fail;
 
 mod growth;
 mod stops;
+mod sweeps;
 
 struct OpenGate;
 
