@@ -1,6 +1,7 @@
 -- What a run begins with stands: a pool, the workers and the cutter, before anything is done.
 use Rattle.std.proofs.Common.{◌≡◌, ℕ, ◌+◌, ◌%◌, ◌==◌, ◌<◌, ◌≤◌, Bool, true, false, List, [], length, vec_capacity, refl, sym, ap, ◌∙◌, subst, arith, Some}
-use Rattle.std.specs.Prelude.{HoldsAt, if◌then◌else◌, slice_get}
+use Rattle.std.specs.Prelude.{HoldsAt, if◌then◌else◌, replicate, slice_get, slice_index}
+use Rattle.std.proofs.lemmas.List.{get_or-replicate, length-replicate}
 use Rattle.std.proofs.lemmas.Option.{get_or_from_slice_get, slice_get_within}
 use Rattle.crossbeam_queue.specs.Passes.{Pass, view}
 use Rattle.size_classes.specs.declared.TheConstants.{DEFAULT_PAGE}
@@ -34,7 +35,6 @@ use Rattle.frame_hash.specs.Takes.{CountsNone, HasTaken, PostNothing, WriteNothi
 use Rattle.frame_cutter.specs.declared.desk.Desk.{Desk}
 use Rattle.frame_cutter.specs.declared.stage.Stage.{Stage}
 use Rattle.frame_cutter.specs.declared.stage.Stage.TheVariants.{Filling}
-use Rattle.frame_cutter.specs.declared.stage.TheConstants.{MOST_SLICES}
 use Rattle.frame_cutter.specs.Sends.{AreSlices, HasSent, WriteFresh}
 use Rattle.frame_cutter.specs.Stages.{jobs_at, pieces_at, roots_at}
 use Rattle.frame_cutter.specs.Standing.{CountsJust, DeskStands, HasBlock, HasServed, IsUnderway, StandsAt}
@@ -71,7 +71,8 @@ taken_none v sender receiver notes others = record {
 
 -- ---- A new pool.
 
-module _ (workers : ℕ) (pool : SharedPool) (seats : List PoolSeat) (new : IsNewPool workers pool seats) where
+module _ (workers : ℕ) {room : ℕ} (pool : SharedPool) (seats : List PoolSeat)
+    (new : IsNewPool workers room pool seats) where
   layout_is : pool.table.layout ≡ layout_of (workers + 1)
   layout_is = pool.same_layout ∙ new.layout
 
@@ -93,8 +94,8 @@ none_told w got hashes idle none empty =
     (λ i. (sym idle i, (sym none i, sym empty i)))
     (record { told = refl; slices = refl })
 
-module _ (workers : ℕ) (o : Opened) (seats : List PoolSeat) (senders receivers : List (Pass Job JobLog))
-    (new : IsNewPool workers o.pool seats)
+module _ (workers : ℕ) {room : ℕ} (o : Opened) (seats : List PoolSeat) (senders receivers : List (Pass Job JobLog))
+    (new : IsNewPool workers room o.pool seats)
     (lines : AreLines workers o.queues.items senders receivers)
     (hired : AreHired workers seats receivers workers o.workers.items) where
   module _ (shop : Shop) (is : IsShopOf shop o) where
@@ -175,13 +176,14 @@ nothing_taken : (b : Bool) → ◌≡◌ {A = List (List ℕ)} (if b then [] els
 nothing_taken true = refl
 nothing_taken false = refl
 
-module _ (workers : ℕ) (o : Opened) (seats : List PoolSeat) (own : PoolSeat)
-    (senders receivers : List (Pass Job JobLog)) (block class : ℕ) (some : 0 < workers)
-    (new : IsNewPool workers o.pool seats)
+module _ (workers room : ℕ) (o : Opened) (seats : List PoolSeat) (own : PoolSeat)
+    (senders receivers : List (Pass Job JobLog)) (rooms : List ℕ) (rooms_are : rooms ≡ replicate workers room)
+    (block class : ℕ) (some : 0 < workers)
+    (new : IsNewPool workers room o.pool seats)
     (lines : AreLines workers o.queues.items senders receivers)
     (hired : AreHired workers seats receivers workers o.workers.items)
     (own_at : slice_get seats workers ≡ Some own)
-    (desk : IsNewDesk workers own senders block class o.desk)
+    (desk : IsNewDesk workers own senders rooms block class o.desk)
     (long : 0 < block) (short : block ≤ 65536)
     (class_at : class_of (of_pages ORDER DEFAULT_PAGE) block ≡ Some class)
     (shop : Shop) (is : IsShopOf shop o) where
@@ -213,10 +215,9 @@ module _ (workers : ℕ) (o : Opened) (seats : List PoolSeat) (own : PoolSeat)
     ends =
         (let a = ap (λ (es : List (Pass Job JobLog)). length es) desk.ends_are in let b = lines.senders_many in
         let c = desk.workers_are in omega (arith, a, b, c));
-    rooms = λ worker lt.
-        (let below : worker < workers = (let a = desk.workers_are in omega (arith, a, lt)) in
-        subst (λ (x : SharedPool × ℕ). RoomFor x.0 x.1 worker MOST_SLICES)
-        (λ i. (sym is.pool i, sym desk.workers_are i)) (new.rooms worker below));
+    rooms =
+        (let a = ap (λ (ns : List ℕ). length ns) (desk.rooms_are ∙ rooms_are) in
+        let b = length-replicate workers room in let c = desk.workers_are in omega (arith, a, b, c));
   }
 
   has_block : HasBlock shop d
@@ -234,6 +235,11 @@ module _ (workers : ℕ) (o : Opened) (seats : List PoolSeat) (own : PoolSeat)
   no_pieces worker =
       ap (λ (s : Stage). pieces_at d.workers worker [] s []) desk.stage
       ∙ nothing_taken (0 % d.workers == worker)
+
+  room_here : (worker : ℕ) → worker < workers → RoomFor shop.pool.now d.workers worker room
+  room_here worker below =
+      subst (λ (x : SharedPool × ℕ). RoomFor x.0 x.1 worker room)
+      (λ i. (sym is.pool i, sym desk.workers_are i)) (new.rooms worker below)
 
   has_served : (worker : ℕ) → worker < d.workers → HasServed shop d [] [] worker
   has_served worker lt =
@@ -254,6 +260,11 @@ module _ (workers : ℕ) (o : Opened) (seats : List PoolSeat) (own : PoolSeat)
         few =
             (let a = ap (sent_on d.workers worker) desk_opened.notes in
             let b = ap (λ vs. length vs) desk.slices in let c = desk.moves in omega (arith, a, b, c));
+        room = λ m.
+            (let a = ap (sent_on d.workers worker) desk_opened.notes in
+            let b = ap (λ (ns : List ℕ). slice_index ns worker) (desk.rooms_are ∙ rooms_are) in
+            let c = get_or-replicate workers worker room 0 below in
+            let e = room_here worker below m in omega (arith, a, b, c, e));
       }
 
   begins : IsUnderway Filling d [] [] []
@@ -285,19 +296,21 @@ module _ (workers : ℕ) (o : Opened) (seats : List PoolSeat) (own : PoolSeat)
 
 -- ---- All of it.
 
-pub is_open : (workers : ℕ) (o : Opened) (seats : List PoolSeat) (own : PoolSeat)
-    (senders receivers : List (Pass Job JobLog)) (block class : ℕ) → 0 < workers
-    → IsNewPool workers o.pool seats → AreLines workers o.queues.items senders receivers
+pub is_open : (workers room : ℕ) (o : Opened) (seats : List PoolSeat) (own : PoolSeat)
+    (senders receivers : List (Pass Job JobLog)) (rooms : List ℕ) → rooms ≡ replicate workers room
+    → (block class : ℕ) → 0 < workers
+    → IsNewPool workers room o.pool seats → AreLines workers o.queues.items senders receivers
     → AreHired workers seats receivers workers o.workers.items → slice_get seats workers ≡ Some own
-    → IsNewDesk workers own senders block class o.desk → 0 < block → block ≤ 65536
+    → IsNewDesk workers own senders rooms block class o.desk → 0 < block → block ≤ 65536
     → class_of (of_pages ORDER DEFAULT_PAGE) block ≡ Some class
     → (o.seats.items ≡ []) × (workers + 1 ≤ vec_capacity o.seats)
     → (o.told.items ≡ []) × (workers ≤ vec_capacity o.told) → IsOpen workers block o
-is_open w o seats own senders receivers block class some new lines hired own_at desk long short class_at left told =
+is_open w room o seats own senders receivers rooms rooms_are block class some new lines hired own_at desk long short
+    class_at left told =
     record {
       cutter = λ shop at.
-          desk_stands w o seats own senders receivers block class some new lines hired own_at desk long short class_at
-          shop at;
+          desk_stands w room o seats own senders receivers rooms rooms_are block class some new lines hired own_at desk
+          long short class_at shop at;
       count = desk.workers_are;
       long = desk.block_is;
       some = some;

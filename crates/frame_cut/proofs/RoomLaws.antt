@@ -10,7 +10,6 @@ use Rattle.shared_pool.specs.declared.mail.Mail.{Mail}
 use Rattle.shared_pool.specs.declared.pool.SharedPool.{SharedPool}
 use Rattle.shared_pool.specs.declared.seat.PoolSeat.{PoolSeat}
 use Rattle.shared_pool.specs.Opening.{AreOpened}
-use Rattle.frame_cutter.specs.declared.stage.TheConstants.{MOST_SLICES}
 use Rattle.frame_cut.specs.Openings.{IsNewPool, layout_of}
 
 -- a place in the last row of a square
@@ -41,10 +40,10 @@ mail_more mail own to v most many low asked = (
       ∙ asked k (omega (arith, lt, other))),
 )
 
-module _ (workers : ℕ) (mail : List ℕ) (pool : SharedPool) (seats : List PoolSeat)
+module _ (workers room : ℕ) (mail : List ℕ) (pool : SharedPool) (seats : List PoolSeat)
     (layout : pool.layout ≡ layout_of (workers + 1)) (used : ℕ) (used_is : used ≡ (workers + 1) * (workers + 1))
     (opened : AreOpened (layout_of (workers + 1)) (take used mail) pool seats)
-    (asked : (to : ℕ) → to < workers → slice_index mail (workers * (workers + 1) + to) ≡ MOST_SLICES) where
+    (asked : (to : ℕ) → to < workers → slice_index mail (workers * (workers + 1) + to) ≡ room) where
   lanes : pool.layout.shape.lanes ≡ workers + 1
   lanes = ap (λ (l : Layout). l.shape.lanes) layout
 
@@ -52,7 +51,7 @@ module _ (workers : ℕ) (mail : List ℕ) (pool : SharedPool) (seats : List Poo
   mails_many = pool.many ∙ (λ i. lanes i * lanes i)
 
   room_at : (to : ℕ) → to < workers → (d : Mail)
-      → (get_or pool.mails.items (workers * (workers + 1) + to) d).room ≡ MOST_SLICES
+      → (get_or pool.mails.items (workers * (workers + 1) + to) d).room ≡ room
   room_at to lt d =
       let k = workers * (workers + 1) + to in
       let low = last_row workers to lt in
@@ -62,7 +61,7 @@ module _ (workers : ℕ) (mail : List ℕ) (pool : SharedPool) (seats : List Poo
       ∙ get_or-take used mail k 0 (omega (arith, used_is, low))
       ∙ asked to lt
 
-  pub is_new_pool : IsNewPool workers pool seats
+  pub is_new_pool : IsNewPool workers room pool seats
   is_new_pool = record {
     layout = layout;
     mail = take used mail;
@@ -71,6 +70,6 @@ module _ (workers : ℕ) (mail : List ℕ) (pool : SharedPool) (seats : List Poo
         (let e : pool.table.layout.shape.lanes ≡ workers + 1 =
         ap (λ (l : Layout). l.shape.lanes) (pool.same_layout ∙ layout) in
         let r = room_at to lt d in
-        subst (λ (n : ℕ). MOST_SLICES ≤ (get_or pool.mails.items (workers * n + to) d).room) (sym e)
+        subst (λ (n : ℕ). room ≤ (get_or pool.mails.items (workers * n + to) d).room) (sym e)
         (omega (arith, r)));
   }

@@ -1,5 +1,6 @@
 -- With what a run begins: the pool, the queues, the workers and the cutter, each by itself.
 use Rattle.std.specs.Prelude.{◌≡◌, ℕ, ◌+◌, ◌<◌, false, List, [], length, Option, Some, slice_get}
+use Rattle.std.specs.Int.{div_ceil}
 use Rattle.size_classes.specs.declared.TheConstants.{DEFAULT_PAGE}
 use Rattle.crossbeam_queue.specs.declared.array_queue.Doing.{Doing}
 use Rattle.crossbeam_queue.specs.declared.array_queue.Slotted.{Slotted}
@@ -13,6 +14,7 @@ use Rattle.shared_pool.specs.declared.pool.SharedPool.{SharedPool}
 use Rattle.shared_pool.specs.declared.seat.PoolSeat.{PoolSeat}
 use Rattle.shared_pool.specs.MailAnswers.{RoomFor}
 use Rattle.shared_pool.specs.Opening.{AreOpened}
+use Rattle.frame_core.specs.declared.limits.TheConstants.{MAX_FRAMES, MAX_STREAM}
 use Rattle.frame_slices.specs.Slices.{HasCut}
 use Rattle.frame_hash.specs.declared.worker.Work.{Work}
 use Rattle.frame_hash.specs.declared.worker.Worker.{Worker}
@@ -42,12 +44,17 @@ layout_of lanes =
       turns = SEAT_TURNS;
     }
 
--- a new pool for so many workers and the cutter, whose mails to the workers have room for all slices
-pub record IsNewPool (workers : ℕ) (pool : SharedPool) (seats : List PoolSeat) : Type 0 where
+-- as many slices may go to one of so many workers where the stream comes in blocks of so many bytes:
+-- a slice ends its block, or a frame of that worker
+abbrev pub room_of : ℕ → ℕ → ℕ
+room_of workers block = div_ceil MAX_STREAM block + div_ceil MAX_FRAMES workers
+
+-- a new pool for so many workers and the cutter, whose mails to the workers have this room
+pub record IsNewPool (workers room : ℕ) (pool : SharedPool) (seats : List PoolSeat) : Type 0 where
   pub layout : pool.layout ≡ layout_of (workers + 1)
   pub mail : List ℕ
   pub opened : AreOpened (layout_of (workers + 1)) mail pool seats
-  pub rooms : (to : ℕ) → to < workers → RoomFor pool workers to MOST_SLICES
+  pub rooms : (to : ℕ) → to < workers → RoomFor pool workers to room
 
 -- ---- The queues.
 
@@ -99,10 +106,10 @@ pub record AreHired
         (seat : PoolSeat) × ((jobs : Pass Job JobLog) × ((slice_get seats k ≡ Some seat)
         × (slice_get receivers k ≡ Some jobs) × IsNewWorker cutter k seat jobs w))
 
--- a cutter with this seat, these ends and blocks of this size, which did nothing yet
+-- a cutter with this seat, these ends and rooms and blocks of this size, which did nothing yet
 pub record IsNewDesk
-    (workers : ℕ) (seat : PoolSeat) (ends : List (Pass Job JobLog)) (block : ℕ) (class : ℕ)
-    (d : Desk) : Type 0
+    (workers : ℕ) (seat : PoolSeat) (ends : List (Pass Job JobLog)) (rooms : List ℕ) (block : ℕ)
+    (class : ℕ) (d : Desk) : Type 0
   where
     pub seat_is : d.seat ≡ seat
     pub workers_are : d.workers ≡ workers
@@ -114,6 +121,7 @@ pub record IsNewDesk
     pub class_is : d.class ≡ class
     pub turns : d.turns ≡ SEAT_TURNS
     pub moves : d.moves ≡ MOST_SLICES
+    pub rooms_are : d.rooms.items ≡ rooms
     pub frames : d.frames ≡ 0
     pub slices : d.slices.items ≡ []
     pub stage : d.stage ≡ Stage.Filling

@@ -56,6 +56,7 @@ pub fn gather(
         class: _,
         turns: _,
         moves: _,
+        rooms: _,
         slices: _,
         stage: _,
     } = desk;

@@ -1,13 +1,13 @@
 //! A pool with a lane for each worker and one for the cutter, and all that they start with.
 
-ghost use Rattle.std.specs.Prelude.{◌≡◌, ℕ, ◌+◌, ◌*◌, ◌<◌, ◌≤◌, [], drop, length, slice_index, IfOk, Some, vec_capacity, vec_len};
+ghost use Rattle.std.specs.Prelude.{◌≡◌, ℕ, ◌+◌, ◌*◌, ◌<◌, ◌≤◌, [], drop, length, replicate, slice_index, IfOk, Some, vec_capacity, vec_len};
 ghost use Rattle.size_classes.specs.Sizes.{class_of, of_pages};
 ghost use Rattle.size_classes.specs.declared.TheConstants.{DEFAULT_PAGE};
-ghost use Rattle.frame_cutter.specs.declared.stage.TheConstants.{MOST_SLICES};
 ghost use Rattle.frame_words.specs.Words.{AreOptions};
-ghost use Rattle.frame_cut.specs.Openings.{AreHired, AreLines, IsNewDesk, IsNewPool, IsNewWorker, layout_of};
+ghost use Rattle.frame_cut.specs.Openings.{AreHired, AreLines, IsNewDesk, IsNewPool, IsNewWorker, layout_of, room_of};
 ghost use Rattle.frame_cut.specs.Tellings.{IsOpen};
 
+use frame_core::{MAX_FRAMES, MAX_STREAM};
 use frame_cutter::{Desk, MOST_SLICES, Stage, Verdict};
 use frame_hash::{HashOf, Work, Worker};
 use frame_slices::Slicer;
@@ -57,9 +57,11 @@ pub fn open(alloc: Global, options: CutOptions) -> Result<Opened, AllocError>
     let count = options.workers as usize;
     let lines = new_lines(alloc, count)?;
     let class = class_for(alloc, options.block)?;
+    let room = room_for(options.workers, options.block);
+    let rooms = rooms_of(alloc, count, room)?;
     let told = Vec::with_capacity(alloc, count)?;
     let workers = Vec::with_capacity(alloc, count)?;
-    match new_pool(alloc, options.workers) {
+    match new_pool(alloc, options.workers, room) {
         Ok((pool, mut seats)) => {
             let Lines {
                 queues,
@@ -68,7 +70,15 @@ pub fn open(alloc: Global, options: CutOptions) -> Result<Opened, AllocError>
             } = lines;
             let workers = hire(alloc, options.workers, &mut seats, receivers, workers);
             let seat = seats.remove(0);
-            let desk = new_desk(alloc, options.workers, seat, senders, options.block, class);
+            let desk = new_desk(
+                alloc,
+                options.workers,
+                seat,
+                senders,
+                rooms,
+                options.block,
+                class,
+            );
             Ok(Opened {
                 pool,
                 queues,
@@ -138,27 +148,48 @@ fn layout_for(lanes: u32) -> Layout
     }
 }
 
-// The cutter's lane, which is behind those of the workers, posts to each of them.
-fn mail_for(workers: usize) -> [u32; 256]
+// As many slices may go to a worker: each ends its block, or a frame of that worker.
+fn room_for(workers: u32, block: u32) -> u32
+    requires workers { 0 < workers }
+    requires block { 0 < block }
+    ensures { result ≡ room_of workers block }
+{
+    MAX_STREAM.div_ceil(block) + MAX_FRAMES.div_ceil(workers)
+}
+
+// The same room for each of so many workers.
+fn rooms_of(alloc: Global, count: usize, room: u32) -> Result<Vec<u32>, AllocError>
+    ensures { IfOk result (λ rooms. rooms.items ≡ replicate count room) }
+{
+    let rooms = Vec::from_elem(alloc, room, count)?;
+    Ok(rooms)
+}
+
+// The cutter's lane, which is behind those of the workers, posts so much to each of them.
+fn mail_for(workers: usize, room: u32) -> [u32; 256]
     requires { workers < MOST_LANES }
     ensures { (to : ℕ) → to < workers →
-        slice_index result (workers * (workers + 1) + to) ≡ MOST_SLICES }
+        slice_index result (workers * (workers + 1) + to) ≡ room }
 {
     let mut mail = [0u32; MOST_LANES * MOST_LANES];
     let own = workers * (workers + 1);
     for to in 0..workers {
-        mail[own + to] = MOST_SLICES;
+        mail[own + to] = room;
     }
     mail
 }
 
-// A pool for so many workers and the cutter.
-fn new_pool(alloc: Global, workers: u32) -> Result<(SharedPool, Vec<PoolSeat>), AllocError>
+// A pool for so many workers and the cutter, which may post so much to each.
+fn new_pool(
+    alloc: Global,
+    workers: u32,
+    room: u32,
+) -> Result<(SharedPool, Vec<PoolSeat>), AllocError>
     requires { (1 ≤ workers) × (workers ≤ 15) }
-    ensures { IfOk result (λ o. IsNewPool workers o.0 o.1.items) }
+    ensures { IfOk result (λ o. IsNewPool workers room o.0 o.1.items) }
 {
     let lanes = workers + 1;
-    let mail = mail_for(workers as usize);
+    let mail = mail_for(workers as usize, room);
     let used = (lanes * lanes) as usize;
     let (pool, seats) = SharedPool::new(alloc, layout_for(lanes), &mail[..used])?;
     Ok((pool, seats))
@@ -208,10 +239,11 @@ fn new_desk(
     workers: u32,
     seat: PoolSeat,
     ends: Vec<JobEnd>,
+    rooms: Vec<u32>,
     block: u32,
     class: u32,
 ) -> Desk
-    ensures { IsNewDesk workers seat ends.items block class result }
+    ensures { IsNewDesk workers seat ends.items rooms.items block class result }
 {
     Desk {
         alloc,
@@ -225,6 +257,7 @@ fn new_desk(
         class,
         turns: SEAT_TURNS,
         moves: MOST_SLICES,
+        rooms,
         frames: 0,
         slices: Vec::new(alloc),
         stage: Stage::Filling,

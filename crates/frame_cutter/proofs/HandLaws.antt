@@ -150,6 +150,7 @@ module _ (shop : Shop) (d : Desk) (read : List ℕ) (st : DeskStands shop d read
                   jobs = e.jobs_are ∙ sym (ap (jobs_at d.workers w st.handed) handing);
                   sent = s.sent;
                   few = s.few;
+                  room = s.room;
                 };
             others = st.others;
             underway =
@@ -267,6 +268,7 @@ module _ (shop : Shop) (d : Desk) (read : List ℕ) (st : DeskStands shop d read
                       (served_here w under);
                   few =
                       (let a = s.few in let c = ap (λ vs. length vs) none in omega (arith, a, c));
+                  room = s.room;
                 };
             others = st.others;
             underway = (

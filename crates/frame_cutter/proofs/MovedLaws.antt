@@ -96,6 +96,7 @@ module _ (shop : Shop) (d : Desk) (read : List ℕ) (st : DeskStands shop d read
         few =
             (let a = s.few in let b = went.sent worker in let c = keeps.before in let e = keeps.behind in
             omega (arith, a, b, c, e, few));
+        room = λ m. (let a = s.room m in let b = went.sent worker in omega (arith, a, b));
       }
 
   pub moved : (more : List ℕ) → AreSlices (view_of seat).own.notes (Some d.workers) slices.items pieces

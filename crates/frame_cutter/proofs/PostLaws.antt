@@ -1,11 +1,13 @@
 -- A desk that hands its frame over: the next slice is posted.
-use Rattle.std.proofs.Common.{◌≡◌, ℕ, zero, suc, ◌+◌, ◌<◌, ◌≢◌, Bool, true, false, List, [], ◌∷◌, ◌++◌, length, map, get_or, take, drop, eqb, eq-eqb, ne_eqb, eqb-true, refl, sym, ap, subst, ◌∙◌, arith, Option, Some, append_assoc}
-use Rattle.std.specs.Prelude.{◌%◌, ◌&&◌, if◌then◌else◌, slice_get, unwrap_or, vec_len}
+use Rattle.std.proofs.Common.{◌≡◌, ℕ, zero, suc, ◌+◌, ◌-◌, ◌<◌, ◌≢◌, Bool, true, false, List, [], ◌∷◌, ◌++◌, length, map, get_or, set, take, drop, eqb, eq-eqb, ne_eqb, eqb-true, refl, sym, ap, subst, ◌∙◌, arith, Option, Some, append_assoc}
+use Rattle.std.specs.Prelude.{◌%◌, ◌&&◌, if◌then◌else◌, slice_get, slice_index, unwrap_or, vec_len}
 use Rattle.std.specs.Global.{Vec}
 use Rattle.std.proofs.Math.Seq.{drop-cons}
-use Rattle.std.proofs.lemmas.List.{take_more}
+use Rattle.std.proofs.lemmas.List.{get_or-set_other, get_or-set_same, length-set, take_more}
 use Rattle.std.proofs.lemmas.Option.{get_or_from_slice_get, slice_get_read, slice_get_within}
 use Rattle.std.proofs.lemmas.Bool.{and_right}
+use mathlib.Core.Logic.{dite}
+use native.Mathlib.Decide.{ℕ_discrete}
 use Rattle.pool_law.specs.declared.id.Parcel.{Parcel}
 use Rattle.pool_law.specs.declared.id.RootId.{RootId}
 use Rattle.pool_law.specs.declared.id.ViewData.{ViewData}
@@ -25,7 +27,7 @@ use Rattle.seat_work.proofs.Knowing.{knows_born}
 use Rattle.seat_work.proofs.Proceeding.{works_after}
 use Rattle.shared_pool.specs.declared.seat.PoolSeat.{PoolSeat}
 use Rattle.shared_pool.specs.Knowing.{ReachesKnown}
-use Rattle.shared_pool.specs.MailAnswers.{HasRoom, IsPosted}
+use Rattle.shared_pool.specs.MailAnswers.{HasRoom, IsPosted, RoomFor}
 use Rattle.shared_pool.specs.Notes.{plain}
 use Rattle.shared_pool.specs.SeatLanes.{lane_of}
 use Rattle.shared_pool.specs.SeatViews.{view_of}
@@ -39,7 +41,8 @@ use Rattle.frame_cutter.specs.Stages.{gone_of, jobs_at, pieces_at, roots_at}
 use Rattle.frame_cutter.specs.Standing.{CountsJust, DeskStands, HasServed, IsUnderway}
 use Rattle.frame_cutter.proofs.CountLaws.{counts_there, second_posted}
 use Rattle.frame_cutter.proofs.FreshLaws.{WriteNone, fresh_kept}
-use Rattle.frame_cutter.proofs.NoteLaws.{sent_kept, sent_more, slices_kept, writes_kept}
+use Rattle.frame_cutter.proofs.NoteLaws.{posts-on, sent_kept, sent_more, slices_kept, writes_kept}
+use Rattle.frame_cutter.proofs.SentLaws.{posts_sent}
 
 -- ---- A letter alone.
 
@@ -117,20 +120,20 @@ module _ (shop : Shop) (d : Desk) (read : List ℕ) (st : DeskStands shop d read
     lane-is : lane_of d.seat ≡ d.workers
     lane-is = ap (λ (n : Option ℕ). unwrap_or n 0) st.stands.lane
 
-    pub room : (worker : ℕ) → worker < d.workers → HasRoom shop.pool.now (lane_of d.seat) worker (view_of d.seat)
-    room worker below =
-        subst (λ (lane : ℕ). HasRoom shop.pool.now lane worker (view_of d.seat)) (sym lane-is)
-        (λ m.
-        let a = (st.served worker below).few in let b = st.stands.rooms worker below m in
-        let c = slice_get_within d.slices.items gone view there in let e = ap gone_of handing in
-        omega (arith, a, b, c, e))
+    pub room : to < d.workers → 0 < slice_index d.rooms.items to
+        → HasRoom shop.pool.now (lane_of d.seat) to (view_of d.seat)
+    room below some =
+        subst (λ (lane : ℕ). HasRoom shop.pool.now lane to (view_of d.seat)) (sym lane-is)
+        (λ m. let a = (st.served to below).room m in omega (arith, a, some))
 
     -- ---- It is posted.
 
     module _ (seat : PoolSeat) (number : ℕ) (goes : Goes shop.pool.now empty_hand 0 0 d.seat seat)
         (changes : Changes (posted (record { view = Some view })) (view_of d.seat) (view_of seat))
         (sends : Sends 1 (view_of d.seat) (view_of seat)) (some : to < d.workers)
-        (noted : IsPosted d.seat seat to number (record { view = Some view })) where
+        (noted : IsPosted d.seat seat to number (record { view = Some view })) (rooms : Vec ℕ)
+        (has : 0 < slice_index d.rooms.items to)
+        (took : rooms.items ≡ set d.rooms.items to (slice_index d.rooms.items to - 1)) where
       abbrev es : List Entry
       es = (view_of d.seat).own.notes
 
@@ -183,8 +186,50 @@ module _ (shop : Shop) (d : Desk) (read : List ℕ) (st : DeskStands shop d read
           elsewhere worker (with_first worker gone false)
           (λ is. let yes = eq-eqb to worker (sym is) in cc (sym yes ∙ e)) s
 
-      served_then : (worker : ℕ) → worker < d.workers
-          → HasServed shop (record d { seat = seat; stage = Handing root used (gone + 1) }) st.handed st.pieces worker
+      -- ---- The room of its worker's mail.
+
+      fewer : slice_index rooms.items to ≡ slice_index d.rooms.items to - 1
+      fewer =
+          let many = st.stands.rooms in
+          ap (λ (ns : List ℕ). slice_index ns to) took
+          ∙ get_or-set_same d.rooms.items to (slice_index d.rooms.items to - 1) 0 (omega (arith, many, some))
+
+      as_many : (worker : ℕ) → worker ≢ to → slice_index rooms.items worker ≡ slice_index d.rooms.items worker
+      as_many worker ne =
+          ap (λ (ns : List ℕ). slice_index ns worker) took
+          ∙ get_or-set_other d.rooms.items to worker (slice_index d.rooms.items to - 1) 0 ne
+
+      none_sent : (worker : ℕ) → worker ≢ to
+          → sent_on d.workers worker (view_of seat).own.notes ≡ sent_on d.workers worker es
+      none_sent worker ne =
+          let a = posts_sent d.workers worker es in
+          let b = posts_sent d.workers worker (es ++ letter ∷ []) in
+          let c = posts-on d.workers worker es (letter ∷ []) in
+          let e = letter_elsewhere d.workers to worker number view ne in
+          let f = ap (sent_on d.workers worker) more in
+          omega (arith, a, b, c, e, f)
+
+      room_then : (worker : ℕ) → worker < d.workers
+          → RoomFor shop.pool.now d.workers worker
+          (sent_on d.workers worker (view_of seat).own.notes + slice_index rooms.items worker)
+      room_then worker below =
+          dite (ℕ_discrete worker to)
+          (λ is. subst (λ (w : ℕ). RoomFor shop.pool.now d.workers w
+          (sent_on d.workers w (view_of seat).own.notes + slice_index rooms.items w)) (sym is)
+          (λ m.
+          let a = (st.served to some).room m in let b = sends.sent to in let c = fewer in
+          let own = ap (λ (n : Option ℕ). sent_on (unwrap_or n 0) to (view_of seat).own.notes)
+          (goes.number ∙ st.stands.lane) in
+          let was = ap (λ (n : Option ℕ). sent_on (unwrap_or n 0) to es) st.stands.lane in
+          omega (arith, a, b, c, own, was, has)))
+          (λ ne m.
+          let a = (st.served worker below).room m in let b = none_sent worker ne in let c = as_many worker ne in
+          omega (arith, a, b, c))
+
+      abbrev sent_desk : Desk
+      sent_desk = record d { seat = seat; stage = Handing root used (gone + 1); rooms = rooms }
+
+      served_then : (worker : ℕ) → worker < d.workers → HasServed shop sent_desk st.handed st.pieces worker
       served_then worker below =
           let s = st.served worker below in
           record {
@@ -207,9 +252,10 @@ module _ (shop : Shop) (d : Desk) (read : List ℕ) (st : DeskStands shop d read
                 let was = ap (λ (n : Option ℕ). sent_on (unwrap_or n 0) worker es) st.stands.lane in
                 let low = slice_get_within d.slices.items gone view there in
                 omega (arith, a, b, c, own, was, low));
+            room = room_then worker below;
           }
 
-      pub posts : DeskStands shop (record d { seat = seat; stage = Handing root used (gone + 1) }) read
+      pub posts : DeskStands shop sent_desk read
       posts =
           let s = st.stands in
           let b = st.block in
@@ -228,7 +274,9 @@ module _ (shop : Shop) (d : Desk) (read : List ℕ) (st : DeskStands shop d read
               some = s.some;
               queues = s.queues;
               ends = s.ends;
-              rooms = s.rooms;
+              rooms =
+                  ap (λ (ns : List ℕ). length ns) took
+                  ∙ length-set d.rooms.items to (slice_index d.rooms.items to - 1) ∙ s.rooms;
             };
             block = record { some = b.some; few = b.few; class = b.class };
             counts = counted;

@@ -85,6 +85,7 @@ module _ (shop : Shop) (d : Desk) (read : List ℕ) (next : ℕ)
           jobs = e.jobs_are;
           sent = s.sent;
           few = s.few;
+          room = s.room;
         }
 
     stands_then : StandsAt shop (record d { ends = ends; stage = Ending told })

@@ -1,5 +1,5 @@
 -- What holds of a cutter between two steps.
-use Rattle.std.specs.Prelude.{◌≡◌, ℕ, ◌+◌, ◌-◌, ◌<◌, ◌≤◌, Bool, true, false, List, [], ◌∷◌, ◌++◌, HoldsAt, length, map, take, drop, Option, Some, None, slice_get}
+use Rattle.std.specs.Prelude.{◌≡◌, ℕ, ◌+◌, ◌-◌, ◌<◌, ◌≤◌, Bool, true, false, List, [], ◌∷◌, ◌++◌, HoldsAt, length, map, take, drop, Option, Some, None, slice_get, slice_index}
 use Rattle.std.specs.Io.KnownBytes.{Consumes, IsAtEnd}
 use Rattle.crossbeam_queue.specs.Passes.{Pass, view}
 use Rattle.size_classes.specs.Sizes.{class_of}
@@ -114,8 +114,7 @@ IsUnderway Over d read handed pieces = HasVerdict d.verdict d read handed × (pi
 abbrev pub CountsJust : List RootId → SeatView → Type 0
 CountsJust roots v = (root : RootId) → gained_of root v ≡ lost_of root v + times root roots
 
--- the desk stands at the pool beside its workers, whose lanes are those below its own, and each mail
--- has room for all slices that it may still send
+-- the desk stands at the pool beside its workers, whose lanes are those below its own
 pub record StandsAt (shop : Shop) (d : Desk) : Type 0 where
   pub works : Works shop.pool.now empty_hand d.turns d.moves d.seat
   pub lane : (view_of d.seat).own.number ≡ Some d.workers
@@ -123,7 +122,7 @@ pub record StandsAt (shop : Shop) (d : Desk) : Type 0 where
   pub some : 0 < d.workers
   pub queues : length shop.queues.now ≡ d.workers
   pub ends : length d.ends.items ≡ d.workers
-  pub rooms : (worker : ℕ) → worker < d.workers → RoomFor shop.pool.now d.workers worker MOST_SLICES
+  pub rooms : length d.rooms.items ≡ d.workers
 
 -- a root may have as many bytes as a block
 pub record HasBlock (shop : Shop) (d : Desk) : Type 0 where
@@ -131,7 +130,7 @@ pub record HasBlock (shop : Shop) (d : Desk) : Type 0 where
   pub few : d.block ≤ 65536
   pub class : class_of (geometry_of shop.pool.now.table.layout.shape) d.block ≡ Some d.class
 
--- what a worker got: its jobs, and its pieces
+-- what a worker got: its jobs, and its pieces; its mail has room for as many more as the desk says
 pub record HasServed
     (shop : Shop) (d : Desk) (handed : List (List (List ℕ))) (pieces : List (List ℕ)) (worker : ℕ) :
     Type 0 where
@@ -143,6 +142,8 @@ pub record HasServed
       (pieces_at d.workers worker handed d.stage pieces)
   pub few : sent_on d.workers worker (view_of d.seat).own.notes
       + (length d.slices.items - gone_of d.stage) + d.moves ≤ MOST_SLICES
+  pub room : RoomFor shop.pool.now d.workers worker
+      (sent_on d.workers worker (view_of d.seat).own.notes + slice_index d.rooms.items worker)
 
 -- the desk has read just these bytes
 pub record DeskStands (shop : Shop) (d : Desk) (read : List ℕ) : Type 0 where

@@ -36,9 +36,10 @@ pub struct Desk {
     pub class: u32,
     /// The turns that its seat has left, or fewer.
     pub turns: u64,
-    /// The slices that it may still make: its seat has a move for each, and each mail has room for
-    /// all of them.
+    /// The slices that it may still make: its seat has a move for each.
     pub moves: u32,
+    /// By worker, the slices that may still go to it: its mail has room for each.
+    pub rooms: Vec<u32>,
     /// The frames that went to their workers.
     pub frames: u32,
     /// The slices of the present frame, in order.

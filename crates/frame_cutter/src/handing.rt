@@ -1,6 +1,6 @@
 //! How a frame goes to its worker.
 
-ghost use Rattle.std.specs.Prelude.{◌≡◌, ◌≢◌, ℕ, List};
+ghost use Rattle.std.specs.Prelude.{◌≡◌, ◌≢◌, ℕ, ◌-◌, ◌<◌, true, false, List, slice_index, slice_set, vec_len};
 ghost use Rattle.frame_cutter.specs.Standing.{DeskStands, SameDesk};
 
 use crate::desk::Desk;
@@ -14,7 +14,7 @@ use work_table::Stepped;
 
 impl Desk {
     /// Sends the next slice of the frame that ended, or the frame's job behind them. Where the
-    /// worker's queue is full it is tried again later.
+    /// worker's queue is full it is tried again later. Its mail has room for all of a stream.
     pub(crate) fn hand<W: Wait>(
         &mut self,
         rt: &W,
@@ -32,6 +32,9 @@ impl Desk {
     {
         let worker = self.frames % self.workers;
         if posted < self.slices.len() {
+            if !take_room(&mut self.rooms, worker) {
+                return Stepped::Waiting;
+            }
             let parcel = Parcel {
                 view: Some(self.slices[posted]),
             };
@@ -53,4 +56,20 @@ impl Desk {
         self.stage = Stage::Cutting { root, used };
         Stepped::Went
     }
+}
+
+// Takes room for one slice in the mail of a worker, where it has some left.
+fn take_room(rooms: &mut Vec<u32>, worker: u32) -> bool
+    requires { worker < vec_len rooms.old }
+    ensures some { result ≡ true → 0 < slice_index rooms.old.items worker }
+    ensures taken { result ≡ true → rooms.new.items
+        ≡ slice_set rooms.old.items worker (slice_index rooms.old.items worker - 1) }
+    ensures none { result ≡ false → rooms.new ≡ rooms.old }
+{
+    let at = worker as usize;
+    if rooms[at] == 0 {
+        return false;
+    }
+    rooms[at] -= 1;
+    true
 }

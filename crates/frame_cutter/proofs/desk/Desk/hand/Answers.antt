@@ -2,23 +2,42 @@ use Rattle.std.proofs.Common.{◌%◌, ℕ, [], ◌∷◌, ◌++◌, get_or, ref
 use Rattle.std.proofs.Math.Nat.{mod-lt}
 use Rattle.std.proofs.lemmas.List.{get_or_default}
 use Rattle.std.proofs.lemmas.Option.{get_or_from_slice_get}
+use Rattle.std.specs.Global.{Vec}
 use Rattle.std.specs.Vec.{with_item}
 use Rattle.crossbeam_queue.specs.Passes.{view}
 use Rattle.job_queue.specs.declared.jobs.Job.TheVariants.{Frame}
 use Rattle.job_queue.specs.Jobs.{IsSender}
+use Rattle.frame_cutter.specs.Standing.{DeskStands}
 use Rattle.frame_cutter.proofs.HandLaws.{few_handed, few_slices, hands_job, hands_none}
 use Rattle.frame_cutter.proofs.PostLaws.{counts_view, known, posts, room, slice_at_place, slice_there}
 use Rattle.frame_cutter.proofs.desk.Desk.hand.Goals as goal
+
+pub take_room-requires : goal.take_room-requires
+take_room-requires g c =
+    let d = c.args.self.now in
+    let st = c.requires.stands.1 in
+    let below = mod-lt d.frames st.stands.some in
+    let many = st.stands.rooms in
+    let long = d.rooms.ok.0 in
+    omega (arith, below, many, long)
+
+pub returns-then-not-take_room-clause-stands : goal.returns-then-not-take_room-clause-stands
+returns-then-not-take_room-clause-stands g c read stands =
+    let d = c.args.self.now in
+    let call = c.if-not-take_room in
+    subst (λ (r : Vec ℕ). DeskStands c.args.shop.now (record d { rooms = r }) read)
+    (sym (call.ensures.none refl)) stands
 
 pub post-requires-clause-room : goal.post-requires-clause-room
 post-requires-clause-room g c =
     let d = c.args.self.now in
     let stands = c.requires.stands in
+    let call = c.if-not-take_room in
     let there =
     slice_at_place d.slices c.args.posted c.len.result c.index.result.now c.len.ensures c.if-posted-len.true
     c.index.ensures in
     room c.args.shop.now d stands.0 stands.1 c.args.root c.args.used c.args.posted c.requires.stage c.index.result.now
-    there (d.frames % d.workers) (mod-lt d.frames stands.1.stands.some)
+    there (mod-lt d.frames stands.1.stands.some) (call.ensures.some refl)
 
 pub post-requires-clause-view : goal.post-requires-clause-view
 post-requires-clause-view g c =
@@ -57,8 +76,10 @@ returns-then-posted-len-clause-stands g c read stands =
     slice_at_place d.slices c.args.posted c.len.result c.index.result.now c.len.ensures c.if-posted-len.true
     c.index.ensures in
     let went = c.post.ensures in
+    let call = c.if-not-take_room in
     posts c.args.shop.now d read stands c.args.root c.args.used c.args.posted c.requires.stage c.index.result.now there
     c.post.new.seat c.post.result went.goes went.changes went.sends (mod-lt d.frames stands.stands.some) went.noted
+    c.take_room.new.rooms (call.ensures.some refl) (call.ensures.taken refl)
 
 pub overflow_cast-job : goal.overflow_cast-job
 overflow_cast-job g c =
