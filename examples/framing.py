@@ -49,11 +49,17 @@ def try_whole(cut):
     expect("frame_cut < no bytes", ran=(run(cut, [], b""), (WHOLE, "frames 0\n", "")))
     longest = [bytes_of(LENGTH_LIMIT), b"x"]
     most = [b""] * FRAME_LIMIT
+    # a slice ends each block and each frame, but for the last
+    slices = [bytes_of(500)] + [bytes_of(1024 - HEAD)] * (FRAME_LIMIT - 1)
+    # all bytes go to one of 15 workers
+    uneven = [bytes_of(0 if number % 15 else 15_296) for number in range(FRAME_LIMIT)]
     for name, frames, sizes in (
         ("1,000 frames", THOUSAND, [(8192, 1), (8192, 4), (1024, 4), (1500, 2), (65_536, 15)]),
         ("frames longer than a block", LONG, [(1024, 3), (1025, 3), (65_536, 3)]),
         ("the longest frame", longest, [(1024, 1), (65_536, 4)]),
         ("the most frames", most, [(8192, 4)]),
+        ("the most slices", slices, [(1024, 1), (1024, 2)]),
+        ("the most slices of a worker", uneven, [(1024, 15), (8192, 15)]),
     ):
         text = text_of(frames)
         for block, workers in sizes:
