@@ -21,7 +21,7 @@ use std::snapshot::Snapshot;
 use step_law::Told;
 
 // All memory that a table takes.
-struct Room<H: Told<Note = Noted>> {
+struct Memory<H: Told<Note = Noted>> {
     words: Vec<u64>,
     slots: Vec<Option<H>>,
     spare_words: Vec<u64>,
@@ -42,7 +42,7 @@ fn no_letters(alloc: Global, lanes: u32) -> Result<Vec<Vec<u64>>, AllocError>
     Ok(counts)
 }
 
-fn take_room<H: Told<Note = Noted>>(alloc: Global, shape: &Shape) -> Result<Room<H>, AllocError>
+fn take_memory<H: Told<Note = Noted>>(alloc: Global, shape: &Shape) -> Result<Memory<H>, AllocError>
     requires { IsTableShape shape.now }
     ensures words { IfOk result (λ r. IsOpening shape.now r.words.items) }
     ensures slots { IfOk result (λ r.
@@ -71,7 +71,7 @@ fn take_room<H: Told<Note = Noted>>(alloc: Global, shape: &Shape) -> Result<Room
         spare_homes.destroy_empty();
         return Err(AllocError);
     };
-    Ok(Room {
+    Ok(Memory {
         words,
         slots,
         spare_words,
@@ -131,17 +131,17 @@ impl<H: Told<Note = Noted>> PoolTable<H> {
             AreFirstSeats layout (H.settles homes.items) r.0 r.1.items) }
         ensures err { IfErr result (λ h. h.items ≡ homes.items) }
     {
-        let Ok(room) = take_room(alloc, &layout.shape) else {
+        let Ok(memory) = take_memory(alloc, &layout.shape) else {
             return Err(homes);
         };
-        let Room {
+        let Memory {
             words,
             slots,
             spare_words,
             spare_homes,
             seats,
             counts,
-        } = room;
+        } = memory;
         let opening = Opening {
             layout,
             homes: Snapshot::of(&homes),
