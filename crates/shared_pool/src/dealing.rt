@@ -118,7 +118,7 @@ impl SeatRoom {
             let row = &mut posts[lane as usize];
             name_row(pool, lane, &first[lane as usize], row, &mut fetches);
         }
-        seated(first, posts, fetches, seats)
+        assemble(first, posts, fetches, seats)
     }
 }
 
@@ -151,7 +151,7 @@ fn name_row(
 }
 
 // Puts the seats of a pool together, in order.
-fn seated(
+fn assemble(
     mut first: Vec<TableSeat>,
     mut posts: Vec<Vec<MailPass>>,
     mut fetches: Vec<Vec<MailPass>>,

@@ -26,16 +26,16 @@ returns-clause-ends c =
     let pool = c.args.pool.now in
     let n = pool.table.layout.shape.lanes in
     let lanes = ap (λ (y : Layout). y.shape.lanes) pool.same_layout in
-    let seats = c.seated.result.items in
-    let many = sym (length-map seats (λ (s : PoolSeat). s.posts)) ∙ (ap length c.seated.ensures.posts
+    let seats = c.assemble.result.items in
+    let many = sym (length-map seats (λ (s : PoolSeat). s.posts)) ∙ (ap length c.assemble.ensures.posts
     ∙ c.loop-lane.invariant.rows.many) in
     record {
       posts = λ k lt.
           holds_map (λ (s : PoolSeat). s.posts) (λ (row : Vec EndPass). ArePosts pool k [] row.items) seats
-          c.loop-lane.posts.items k c.seated.ensures.posts (omega (arith, many, lt))
+          c.loop-lane.posts.items k c.assemble.ensures.posts (omega (arith, many, lt))
           (c.loop-lane.invariant.rows.done k (omega (arith, lanes, lt)));
       fetches = λ k lt.
           holds_map (λ (s : PoolSeat). s.fetches) (λ (column : Vec EndPass). AreFetches pool k [] column.items) seats
-          c.loop-lane.fetches.items k c.seated.ensures.fetches (omega (arith, many, lt))
+          c.loop-lane.fetches.items k c.assemble.ensures.fetches (omega (arith, many, lt))
           (λ d from below. (c.loop-lane.invariant.columns.each k lt d).ends from (omega (arith, lanes, below)));
     }

@@ -1,6 +1,6 @@
 use Rattle.std.proofs.Common.{◌≡◌, ◌+◌, ◌≤◌, ◌++◌, map}
 use Rattle.std.specs.Prelude.{reverse, vec_capacity, vec_len}
-use Rattle.shared_pool.proofs.dealing.seated.Given as goal
+use Rattle.shared_pool.proofs.dealing.assemble.Given as goal
 
 abbrev pub invariant-loop-seat : goal.invariant-loop-seat
 invariant-loop-seat l =
