@@ -14,7 +14,7 @@ use Rattle.pool_law.specs.Limits.{geometry_of}
 use Rattle.pool_law.specs.Same.{same_taking}
 use Rattle.pool_law.specs.Arenas.{Arena as ArenaState, new_arena}
 use Rattle.history_laws.specs.NoteCounts.{is_taking, uses_in, has_number, arena_out, arena_in}
-use Rattle.history_laws.specs.Histories.{IsHistory, IsArenaAfter}
+use Rattle.history_laws.specs.Histories.{IsLawful, IsArenaAfter}
 use Rattle.history_laws.proofs.Names.{same_taking-is, same_taking-both}
 use Rattle.history_laws.proofs.Runs.{Runs, balance}
 use Rattle.history_laws.proofs.ArenaSteps.{IsArenaStep}
@@ -285,7 +285,7 @@ pub record ArenaLaw (a : ℕ) (h : List Noted) (x : ArenaState) : Type 0 where
   -- a taking has no uses
   pub unused : (q : RegionId) → sum_by (λ (n : Noted). arena_out (uses_in q) n.did) h ≡ 0
 
-pub arena_laws : (s : Shape) (a : ℕ) (h : List Noted) (x : ArenaState) → IsHistory s (Arena a) h → IsArenaAfter s a h x
+pub arena_laws : (s : Shape) (a : ℕ) (h : List Noted) (x : ArenaState) → IsLawful s (Arena a) h → IsArenaAfter s a h x
     → ArenaLaw a h x
 arena_laws s a h x k e =
     let r = arena_runs s a h x k e in

@@ -18,7 +18,7 @@ use Rattle.pool_law.specs.Arenas.{Arena as ArenaState}
 use Rattle.pool_law.specs.Caches.{Cache as CacheState}
 use Rattle.pool_law.specs.Roots.{RootPlace}
 use Rattle.history_laws.specs.NoteCounts.{place_lane, did_handle, did_home}
-use Rattle.history_laws.specs.Histories.{IsHistory, IsBinAfter}
+use Rattle.history_laws.specs.Histories.{IsLawful, IsBinAfter}
 use Rattle.history_laws.specs.Standing.{IsPlaced, IsMailed}
 use Rattle.history_laws.proofs.Runs.{balance, keeps}
 use Rattle.history_laws.proofs.BinSteps.{IsBinStep, bin_of, mapped-push}
@@ -28,7 +28,7 @@ use Rattle.history_laws.proofs.PlaceSteps.{IsPlaceStep}
 use Rattle.history_laws.proofs.Told.{no_mail, bin_there, bin_note, bin_runs, last_bin, last_arena, last_cache, last_place}
 
 -- the empty history is accepted of each object that has one
-pub no_history : (s : Shape) (o : Object) → IsObjectOf s o → IsHistory s o []
+pub no_history : (s : Shape) (o : Object) → IsObjectOf s o → IsLawful s o []
 no_history s (Arena a) f = record { accepted = refl; right = tt }
 no_history s (Cache l c) f = record { accepted = refl; right = tt }
 no_history s (Bin l) f = record { accepted = refl; right = tt }
@@ -62,7 +62,7 @@ step_keeps s l p q m NoHandle t =
 step_keeps s l p q m (Home x) t = let a = ap (times p) t.1 in let b = times_push p x q in omega (arith, a, b)
 step_keeps s l p q m d t = absurd t
 
-runs_keep : (s : Shape) (l p : ℕ) (h : List Noted) (m : List ℕ) → IsHistory s (Bin l) h → IsBinAfter s l h m →
+runs_keep : (s : Shape) (l p : ℕ) (h : List Noted) (m : List ℕ) → IsLawful s (Bin l) h → IsBinAfter s l h m →
     times p (new_bin l s.handles) + sum_by (λ (n : Noted). did_home p n.did) h
     ≡ sum_by (λ (n : Noted). did_handle p n.did) h + times p m
 runs_keep s l p h m t e =
@@ -105,14 +105,14 @@ once p base (suc n) =
     (λ ne. let b = once p base n in let c = none_here (base + n) p ne in omega (arith, a, b, c))
 
 -- a place is taken out of its bin at most once more than it came home
-pub stock : (s : Shape) (l p : ℕ) (h : List Noted) → IsHistory s (Bin l) h
+pub stock : (s : Shape) (l p : ℕ) (h : List Noted) → IsLawful s (Bin l) h
     → sum_by (λ (n : Noted). did_handle p n.did) h ≤ 1 + sum_by (λ (n : Noted). did_home p n.did) h
 stock s l p h t =
     let m = bin_there s l h t in let a = runs_keep s l p h m.0 t m.1 in let b = once p (l * s.handles) s.handles in
     omega (arith, a, b)
 
 -- a place of the lane is in its bin, or was taken out once more than it came home
-pub in_bin : (s : Shape) (l p : ℕ) (h : List Noted) (m : List ℕ) → IsHistory s (Bin l) h → IsBinAfter s l h m
+pub in_bin : (s : Shape) (l p : ℕ) (h : List Noted) (m : List ℕ) → IsLawful s (Bin l) h → IsBinAfter s l h m
     → 0 < s.handles → place_lane s p ≡ l →
     count_by (λ (x : ℕ). eqb x p) m + sum_by (λ (n : Noted). did_handle p n.did) h
     ≡ 1 + sum_by (λ (n : Noted). did_home p n.did) h
@@ -138,7 +138,7 @@ foreign_step s l p q m (Home x) t ne z =
 foreign_step s l p q m d t ne z = absurd t
 
 -- a place of another lane is never in this bin
-pub foreign : (s : Shape) (l p : ℕ) (h : List Noted) (m : List ℕ) → IsHistory s (Bin l) h → IsBinAfter s l h m
+pub foreign : (s : Shape) (l p : ℕ) (h : List Noted) (m : List ℕ) → IsLawful s (Bin l) h → IsBinAfter s l h m
     → 0 < s.handles → place_lane s p ≢ l → count_by (λ (x : ℕ). eqb x p) m ≡ 0
 foreign s l p h m t e pos ne =
     let k : ℕ = s.handles in let b : ℕ = l * k in
@@ -200,7 +200,7 @@ place_placed s o p n x y (Grow c z) t = (λ p. inl refl, λ p g. inl refl)
 place_placed s o p n x y d t = absurd t
 
 -- a place is taken and comes home only at the bin of its lane
-pub placed : (s : Shape) (o : Object) (h : List Noted) (n : Noted) → IsHistory s o (h ++ n ∷ []) → IsPlaced s o n.did
+pub placed : (s : Shape) (o : Object) (h : List Noted) (n : Noted) → IsLawful s o (h ++ n ∷ []) → IsPlaced s o n.did
 placed s (Arena a) h n t = let k = last_arena s a h n t in (arena_placed s (Arena a) a k.0 k.1 n.did k.3).0
 placed s (Cache l c) h n t = let k = last_cache s l c h n t in (cache_placed s (Cache l c) l c k.0 k.1 n.did k.2).0
 placed s (Bin l) h n t = let k = last_bin s l h n t in bin_placed s l k.0 k.1 n.did k.2
@@ -214,7 +214,7 @@ bin_mailed s l o q m (Home x) t p g = inl refl
 bin_mailed s l o q m d t p g = absurd t
 
 -- a view is posted and fetched only at a mail
-pub mailed : (s : Shape) (o : Object) (h : List Noted) (n : Noted) → IsHistory s o (h ++ n ∷ []) → IsMailed o n.did
+pub mailed : (s : Shape) (o : Object) (h : List Noted) (n : Noted) → IsLawful s o (h ++ n ∷ []) → IsMailed o n.did
 mailed s (Arena a) h n t = let k = last_arena s a h n t in (arena_placed s (Arena a) a k.0 k.1 n.did k.3).1
 mailed s (Cache l c) h n t = let k = last_cache s l c h n t in (cache_placed s (Cache l c) l c k.0 k.1 n.did k.2).1
 mailed s (Bin l) h n t = let k = last_bin s l h n t in bin_mailed s l (Bin l) k.0 k.1 n.did k.2

@@ -15,7 +15,7 @@ use Rattle.pool_law.specs.Roots.{RootPlace, Present, new_place}
 use Rattle.pool_law.specs.Histories.{arena_after, cache_after, place_after}
 use Rattle.pool_law.specs.NotedHistories.{noted_dids}
 use Rattle.history_laws.specs.NoteCounts.{is_taking, uses_in, has_number, weight_or, arena_out, cache_out, cache_in, ended_region, place_out, place_in}
-use Rattle.history_laws.specs.Histories.{IsHistory, IsArenaAfter, IsCacheAfter, IsPlaceAfter}
+use Rattle.history_laws.specs.Histories.{IsLawful, IsArenaAfter, IsCacheAfter, IsPlaceAfter}
 use Rattle.history_laws.proofs.Names.{same_taking-is}
 use Rattle.history_laws.proofs.Runs.{balance, keeps, one_there}
 use Rattle.history_laws.proofs.ArenaSteps.{IsArenaStep}
@@ -36,7 +36,7 @@ cache_step w l c x (Close k) y s = let u = ap (load w) s in omega (arith, u)
 cache_step w l c x d y s = absurd s
 
 -- what was put into a cache was taken out of it or is there
-pub cache_law : (s : Shape) (w : RegionId → ℕ) (l c : ℕ) (h : List Noted) (x : CacheState) → IsHistory s (Cache l c) h
+pub cache_law : (s : Shape) (w : RegionId → ℕ) (l c : ℕ) (h : List Noted) (x : CacheState) → IsLawful s (Cache l c) h
     → IsCacheAfter l c h x →
     sum_by (λ (n : Noted). cache_in w n.did) h ≡ sum_by (λ (n : Noted). cache_out w n.did) h + sum_by w x.regions
 cache_law s w l c h x k e =
@@ -66,7 +66,7 @@ of_step l c x (Close k) y s of = subst (OfCache l c) (sym s) of
 of_step l c x d y s of = absurd s
 
 -- a cache has regions of its own lane and class alone
-pub cache_own : (s : Shape) (l c : ℕ) (h : List Noted) (x : CacheState) → IsHistory s (Cache l c) h
+pub cache_own : (s : Shape) (l c : ℕ) (h : List Noted) (x : CacheState) → IsLawful s (Cache l c) h
     → IsCacheAfter l c h x → OfCache l c x.regions
 cache_own s l c h x k e =
     keeps (cache_note l c) (λ (x : CacheState). OfCache l c x.regions) (λ x y n step of. of_step l c x n.did y step of)
@@ -103,7 +103,7 @@ place_step w p x (Extend c) region y s =
 place_step w p x d region y s = absurd s
 
 -- what came to a root place was taken out of it or is there
-pub place_law : (s : Shape) (w : RegionId → ℕ) (p : ℕ) (h : List Noted) (x : RootPlace) → IsHistory s (Root p) h
+pub place_law : (s : Shape) (w : RegionId → ℕ) (p : ℕ) (h : List Noted) (x : RootPlace) → IsLawful s (Root p) h
     → IsPlaceAfter p h x →
     sum_by (λ (n : Noted). place_in w n.did) h ≡ sum_by (place_out w) h + weight_or w (region_in x)
 place_law s w p h x k e =
@@ -130,8 +130,8 @@ next_taking a x (Full c) y s beyond q is lt = absurd (omega (arith, lt))
 next_taking a x (Give r) y s beyond q is lt = absurd (omega (arith, lt))
 next_taking a x d y s beyond q is lt = absurd s
 
-pub arena_next : (s : Shape) (a : ℕ) (h : List Noted) (n : Noted) (x : ArenaState) → IsHistory s (Arena a) h
-    → IsHistory s (Arena a) (h ++ n ∷ []) → IsArenaAfter s a h x → (q : RegionId) → q.place.arena ≡ a
+pub arena_next : (s : Shape) (a : ℕ) (h : List Noted) (n : Noted) (x : ArenaState) → IsLawful s (Arena a) h
+    → IsLawful s (Arena a) (h ++ n ∷ []) → IsArenaAfter s a h x → (q : RegionId) → q.place.arena ≡ a
     → 0 < arena_out (is_taking q) n.did → sum_by (is_taking q) x.out ≡ 0
 arena_next s a h n x t more e q is lt =
     let k = last_arena s a h n more in let same : k.0 ≡ x = one_there (arena_after s a (noted_dids h)) k.0 x k.2 e in
@@ -151,7 +151,7 @@ cache_front w l c x (Close k) y s = omega arith
 cache_front w l c x d y s = absurd s
 
 pub cache_next : (s : Shape) (w : RegionId → ℕ) (l c : ℕ) (h : List Noted) (n : Noted) (x : CacheState)
-    → IsHistory s (Cache l c) (h ++ n ∷ []) → IsCacheAfter l c h x → cache_out w n.did ≤ sum_by w x.regions
+    → IsLawful s (Cache l c) (h ++ n ∷ []) → IsCacheAfter l c h x → cache_out w n.did ≤ sum_by w x.regions
 cache_next s w l c h n x more e =
     let k = next_cache s l c h n more in let same : k.0 ≡ x = one_there (cache_after l c (noted_dids h)) k.0 x k.2 e in
     subst (λ (x : CacheState). cache_out w n.did ≤ sum_by w x.regions) same (cache_front w l c k.0 n.did k.1 k.3)
@@ -170,7 +170,7 @@ place_front w p x (Extend c) region y s = let o : weight_or w None ≡ 0 = refl 
 place_front w p x d region y s = absurd s
 
 pub place_next : (s : Shape) (w : RegionId → ℕ) (p : ℕ) (h : List Noted) (n : Noted) (x : RootPlace)
-    → IsHistory s (Root p) (h ++ n ∷ []) → IsPlaceAfter p h x → place_out w n ≤ weight_or w (region_in x)
+    → IsLawful s (Root p) (h ++ n ∷ []) → IsPlaceAfter p h x → place_out w n ≤ weight_or w (region_in x)
 place_next s w p h n x more e =
     let k = last_place s p h n more in let same : k.0 ≡ x = one_there (place_after p (noted_dids h)) k.0 x k.2 e in
     subst (λ (x : RootPlace). place_out w n ≤ weight_or w (region_in x)) same

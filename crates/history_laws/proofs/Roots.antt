@@ -16,7 +16,7 @@ use Rattle.pool_law.specs.Arenas.{Arena as ArenaState}
 use Rattle.pool_law.specs.Caches.{Cache as CacheState}
 use Rattle.pool_law.specs.Roots.{RootPlace, Present, new_place}
 use Rattle.history_laws.specs.NoteCounts.{did_birth, did_birth_of, did_birth_as, did_end}
-use Rattle.history_laws.specs.Histories.{IsHistory, IsPlaceAfter}
+use Rattle.history_laws.specs.Histories.{IsLawful, IsPlaceAfter}
 use Rattle.history_laws.specs.Standing.{IsRooted}
 use Rattle.history_laws.proofs.Runs.{Runs, balance}
 use Rattle.history_laws.proofs.BinSteps.{IsBinStep}
@@ -140,7 +140,7 @@ new_ended p = record {
 }
 
 -- the ends of a place whose history is h
-pub place_ends : (s : Shape) (p : ℕ) (h : List Noted) (x : RootPlace) → IsHistory s (Root p) h → IsPlaceAfter p h x
+pub place_ends : (s : Shape) (p : ℕ) (h : List Noted) (x : RootPlace) → IsLawful s (Root p) h → IsPlaceAfter p h x
     → IsEnded p x (λ g. ended p g h)
 place_ends s p h x t e =
     stays p x x (λ g. 0 + ended p g h) (λ g. ended p g h) refl refl (λ g. omega arith)
@@ -162,7 +162,7 @@ step_births p x (Extend c) region y t = let b = t.generation in omega (arith, b)
 step_births p x (Grow c z) region y t = let b = t.generation in omega (arith, b)
 step_births p x d region y t = absurd t
 
-pub place_births : (s : Shape) (p : ℕ) (h : List Noted) (x : RootPlace) → IsHistory s (Root p) h → IsPlaceAfter p h x
+pub place_births : (s : Shape) (p : ℕ) (h : List Noted) (x : RootPlace) → IsLawful s (Root p) h → IsPlaceAfter p h x
     → sum_by (λ (n : Noted). did_birth p n.did) h ≡ x.generation
 place_births s p h x t e =
     let a = balance (place_note p) (λ x. x.generation) (λ n. did_birth p n.did) (λ n. 0)
@@ -230,7 +230,7 @@ run_born p (a ∷ h) x y e r k =
     (λ g. let c = sum_by-cons (λ (n : Noted). did_birth_of p g n.did) a h in omega (arith, c)) s
 
 -- a root is born at most once, and none of generation 0 or above the last
-pub place_born : (s : Shape) (p : ℕ) (h : List Noted) (x : RootPlace) → IsHistory s (Root p) h → IsPlaceAfter p h x
+pub place_born : (s : Shape) (p : ℕ) (h : List Noted) (x : RootPlace) → IsLawful s (Root p) h → IsPlaceAfter p h x
     → (g : ℕ) →
     (sum_by (λ (n : Noted). did_birth_of p g n.did) h ≤ 1)
     × ((g ≡ 0) ⊎ (x.generation < g) → sum_by (λ (n : Noted). did_birth_of p g n.did) h ≡ 0)
@@ -291,7 +291,7 @@ run_present p (n ∷ h) x y r t is =
     (run_present p h t.0 y r t.2 is)
 
 -- the root that is present was born as it is
-pub place_present : (s : Shape) (p : ℕ) (h : List Noted) (x : RootPlace) (r : RootId) → IsHistory s (Root p) h
+pub place_present : (s : Shape) (p : ℕ) (h : List Noted) (x : RootPlace) (r : RootId) → IsLawful s (Root p) h
     → IsPlaceAfter p h x → root_in x ≡ Some r →
     0 < sum_by (λ (n : Noted). did_birth_as r.place r.generation r.capacity n.did) h
 place_present s p h x r t e is = ⊎_elim
@@ -372,7 +372,7 @@ root_of p x fits r e = by x.present refl e
         let same : q.root ≡ r = same_one q.root r e in ap (λ (v : RootId). v.place) (sym same) ∙ (fits q is).0
 
 -- a root is born and ends only at its place
-pub rooted : (s : Shape) (o : Object) (h : List Noted) (n : Noted) → IsHistory s o (h ++ n ∷ []) → IsRooted o n.did
+pub rooted : (s : Shape) (o : Object) (h : List Noted) (n : Noted) → IsLawful s o (h ++ n ∷ []) → IsRooted o n.did
 rooted s (Arena a) h n t = let k = last_arena s a h n t in arena_rooted (Arena a) a k.0 k.1 n.did k.3
 rooted s (Cache l c) h n t = let k = last_cache s l c h n t in cache_rooted (Cache l c) l c k.0 k.1 n.did k.2
 rooted s (Bin l) h n t = let k = last_bin s l h n t in bin_rooted s l (Bin l) k.0 k.1 n.did k.2

@@ -14,7 +14,7 @@ use Rattle.pool_law.specs.Arenas.{Arena as ArenaState}
 use Rattle.pool_law.specs.Caches.{Cache as CacheState}
 use Rattle.pool_law.specs.Roots.{RootPlace}
 use Rattle.history_laws.specs.NoteCounts.{is_taking, arena_out, arena_in, cache_out, cache_in, place_out, place_in}
-use Rattle.history_laws.specs.Histories.{IsHistory}
+use Rattle.history_laws.specs.Histories.{IsLawful}
 use Rattle.history_laws.specs.Standing.{IsRegioned, IsOfClass}
 use Rattle.history_laws.proofs.BinSteps.{IsBinStep}
 use Rattle.history_laws.proofs.ArenaSteps.{IsArenaStep}
@@ -87,7 +87,7 @@ root_regioned p x e (Extend c) region y s g = nothing (Root p) (with_did e (Exte
 root_regioned p x e d region y s g = absurd s
 
 -- a taking leaves and enters its arena, caches and root places only by the notes of these
-pub regioned : (s : Shape) (o : Object) (h : List Noted) (n : Noted) → IsHistory s o (h ++ n ∷ []) → (q : RegionId)
+pub regioned : (s : Shape) (o : Object) (h : List Noted) (n : Noted) → IsLawful s o (h ++ n ∷ []) → (q : RegionId)
     → IsRegioned o n q
 regioned s (Arena a) h n t = let k = last_arena s a h n t in arena_regioned a k.0 n n.did k.1 k.3
 regioned s (Cache l c) h n t = let k = last_cache s l c h n t in cache_regioned l c k.0 n n.did k.1 k.2
@@ -115,7 +115,7 @@ place_class : (p : ℕ) (x : RootPlace) (d : Did) (region : Option RegionId) (y 
 place_class p x (Take k r) region y s = absurd s
 place_class p x d region y s = tt
 
-pub of_class : (s : Shape) (o : Object) (h : List Noted) (n : Noted) → IsHistory s o (h ++ n ∷ []) → IsOfClass n.did
+pub of_class : (s : Shape) (o : Object) (h : List Noted) (n : Noted) → IsLawful s o (h ++ n ∷ []) → IsOfClass n.did
 of_class s (Arena a) h n t = let k = last_arena s a h n t in arena_class a k.0 n.did k.1 k.3
 of_class s (Cache l c) h n t = let k = last_cache s l c h n t in cache_class l c k.0 n.did k.1 k.2
 of_class s (Bin l) h n t = let k = last_bin s l h n t in bin_class s l k.0 n.did k.1 k.2

@@ -17,7 +17,7 @@ AreRight o before [] = Unit {0}
 AreRight o before (n ∷ ns) = IsRightAt o before n × AreRight o (before ++ n ∷ []) ns
 
 -- the notes are a history of the object, oldest first
-pub record IsHistory (s : Shape) (o : Object) (h : List Noted) : Type 0 where
+pub record IsLawful (s : Shape) (o : Object) (h : List Noted) : Type 0 where
   pub accepted : IsAccepted s o (noted_dids h)
   pub right : AreRight o [] h
 

@@ -17,7 +17,7 @@ use Rattle.pool_table.proofs.Claimed.{stays_sound}
 use Rattle.pool_table.proofs.Sending.{sends_allowed, receives_allowed}
 use Rattle.atomic_table.specs.Table.{keeps}
 use Rattle.pool_table.specs.Slots.{slots_of, slot_of}
-use Rattle.history_laws.specs.Histories.{IsHistory}
+use Rattle.history_laws.specs.Histories.{IsLawful}
 use Rattle.pool_law.specs.Naming.{noted_by}
 use Rattle.history_laws.specs.Measures.{measures_of}
 use Rattle.pool_table.specs.declared.views.Layout.{Layout}
@@ -103,7 +103,7 @@ module _ {H : Type 0} (stands : List ℕ → Setting → List Noted → H → Ty
       (h : List Noted) (home : H) (note : Noted) → key ≡ l → slots ≡ slots_of l.shape → IsInside l.shape me o slot h
       → id' ≡ id → me' ≡ (me.0, (slot.home, Some home) ∷ [])
       → 0 < me.0.turns → MayNote l.shape me.0.own.number o note.did → PutsDown me.0 note.did
-      → IsHistory l.shape o (h ++ noted_by me.0.own.number note ∷ [])
+      → IsLawful l.shape o (h ++ noted_by me.0.own.number note ∷ [])
       → StandsFor stands (measures_of l.shape o) me.0 (h ++ noted_by me.0.own.number note ∷ []) home
       → Allows (IsSound stands key) slots id' me' slot.word (λ n. (n + 1) % 2 ^ 64)
       (counts_one (dones note) (step slots slot.word 1 0 none) me')

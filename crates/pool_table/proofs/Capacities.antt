@@ -29,7 +29,7 @@ use Rattle.pool_law.specs.Counts.{root_is}
 use Rattle.pool_law.specs.Capacities.{reach_of, told_by, known_of}
 use Rattle.pool_law.specs.Roots.{Present, RootPlace, new_place, place_step, place_step_by}
 use Rattle.pool_law.proofs.SameLemmas.{and-first, same_root-is}
-use Rattle.history_laws.specs.Histories.{IsHistory, IsPlaceAfter}
+use Rattle.history_laws.specs.Histories.{IsLawful, IsPlaceAfter}
 use Rattle.history_laws.specs.NoteCounts.{one_if_so, did_birth, did_birth_as, did_end}
 use Rattle.history_laws.proofs.BinSteps.{so}
 use Rattle.history_laws.proofs.Runs.{last_note, right_last}
@@ -182,7 +182,7 @@ module _ {H : Type 0} (stands : List ℕ → Setting → List Noted → H → Ty
 
   room_given : (s : St) (r : IsSound stands l s) (p : ℕ) (fits : IsObjectOf l.shape (Root p)) (n : Noted) (asked c : ℕ)
       (q : RootId) → n.did ≡ Room asked c → n.root ≡ Some q
-      → IsHistory l.shape (Root p) ((r.objects (Root p) fits).history ++ n ∷ []) → WasGiven s.views q c
+      → IsLawful l.shape (Root p) ((r.objects (Root p) fits).history ++ n ∷ []) → WasGiven s.views q c
   room_given s r p fits n asked c q did is accepted =
       let h = (r.objects (Root p) fits).history in let y = place_there l.shape p (h ++ n ∷ []) accepted in
       let last = last_note (place_step p) h n new_place y.0 y.1 in
@@ -206,7 +206,7 @@ module _ {H : Type 0} (stands : List ℕ → Setting → List Noted → H → Ty
   pub note_tells : (s : St) (r : IsSound stands l s) (after : List SeatView) (o : Object) (fits : IsObjectOf l.shape o)
       (k : ℕ) (lane : Option ℕ) (n : Noted) → Grows s.views after
       → ((f : Entry → ℕ) → f (At o k n) ≤ sum_by (weigh f) after) → NoteStands l.shape lane o n
-      → IsHistory l.shape o ((r.objects o fits).history ++ n ∷ []) → TellsGiven after (At o k n)
+      → IsLawful l.shape o ((r.objects o fits).history ++ n ∷ []) → TellsGiven after (At o k n)
   note_tells s r after o fits k lane n grows counts st accepted q some_told = by n.did refl some_told
     where
       -- a gift of this note
@@ -225,7 +225,7 @@ module _ {H : Type 0} (stands : List ℕ → Setting → List Noted → H → Ty
       room : (asked c : ℕ) → n.did ≡ Room asked c → root_is q n.root ≡ true → WasGiven after q c
       room asked c did is =
           subst (λ (o : Object). (fits : IsObjectOf l.shape o)
-          → IsHistory l.shape o ((r.objects o fits).history ++ n ∷ []) → WasGiven after q c)
+          → IsLawful l.shape o ((r.objects o fits).history ++ n ∷ []) → WasGiven after q c)
           (sym (at_root q o n st.plain is))
           (λ fits accepted. let a = grows (at_gift q c) in
           let b = room_given s r q.place fits n asked c q did (told_root q n.root is) accepted in

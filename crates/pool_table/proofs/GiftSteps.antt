@@ -17,7 +17,7 @@ use Rattle.pool_law.specs.NotedHistories.{noted_dids, IsRightAt}
 use Rattle.pool_law.specs.Logs.{present_in, root_for}
 use Rattle.pool_law.specs.Counts.{root_is}
 use Rattle.pool_law.proofs.SameLemmas.{and-first, and-second}
-use Rattle.history_laws.specs.Histories.{IsHistory, IsPlaceAfter}
+use Rattle.history_laws.specs.Histories.{IsLawful, IsPlaceAfter}
 use Rattle.history_laws.proofs.BinSteps.{so}
 use Rattle.history_laws.proofs.Runs.{Runs, told, next_note}
 use Rattle.history_laws.proofs.PlaceSteps.{FitsPlace}
@@ -244,7 +244,7 @@ module _ (p : ℕ) where
   abbrev Inv : List Noted → RootPlace → Type 0
   Inv before x = IsPlaceAfter p before x × LiesIn x
 
-  pub run : (s : Shape) (h : List Noted) (x : RootPlace) → IsHistory s (Root p) h → IsPlaceAfter p h x
+  pub run : (s : Shape) (h : List Noted) (x : RootPlace) → IsLawful s (Root p) h → IsPlaceAfter p h x
       → Runs Step new_place h x
   run s h x t e = told (place_step p) (Root p) Inv Step one h [] new_place x (refl, λ q is. absurd (cc is)) t.right e
     where

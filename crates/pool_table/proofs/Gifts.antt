@@ -17,7 +17,7 @@ use Rattle.pool_law.specs.Logs.{root_for}
 use Rattle.pool_law.specs.Counts.{root_is}
 use Rattle.pool_law.proofs.SameLemmas.{and-first, and-second, same_root-is}
 use Rattle.pool_law.proofs.PatternLemmas.{same_root-refl}
-use Rattle.history_laws.specs.Histories.{IsHistory, IsPlaceAfter}
+use Rattle.history_laws.specs.Histories.{IsLawful, IsPlaceAfter}
 use Rattle.history_laws.specs.NoteCounts.{one_if_so}
 use Rattle.history_laws.proofs.Runs.{Runs}
 use Rattle.history_laws.proofs.PlaceSteps.{FitsPlace}
@@ -215,13 +215,13 @@ module _ (p : ℕ) where
 
   -- ---- Of a whole history.
 
-  pub given_in : (s : Shape) (h : List Noted) (x : RootPlace) (q : Present) → IsHistory s (Root p) h
+  pub given_in : (s : Shape) (h : List Noted) (x : RootPlace) (q : Present) → IsLawful s (Root p) h
       → IsPlaceAfter p h x → x.present ≡ Some q → 0 < sum_by (gift q.root (length q.bytes)) h
   given_in s h x q t e is = ⊎_elim
       (λ (k : Had new_place q). absurd (cc k.is))
       (λ (lt : 0 < sum_by (gift q.root (length q.bytes)) h). lt)
       (was_given h new_place x q (run p s h x t e) is)
 
-  pub given_within : (s : Shape) (h : List Noted) (x : RootPlace) (q : Present) (c : ℕ) → IsHistory s (Root p) h
+  pub given_within : (s : Shape) (h : List Noted) (x : RootPlace) (q : Present) (c : ℕ) → IsLawful s (Root p) h
       → IsPlaceAfter p h x → x.present ≡ Some q → 0 < sum_by (gift q.root c) h → c ≤ length q.bytes
   given_within s h x q c t e is lt = no_more h new_place x q c (run p s h x t e) (place_fits p h x e) is lt

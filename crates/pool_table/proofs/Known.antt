@@ -13,7 +13,7 @@ use Rattle.pool_law.specs.Roots.{Present, RootPlace}
 use Rattle.pool_law.specs.Histories.{place_after}
 use Rattle.pool_law.specs.NotedHistories.{noted_dids}
 use Rattle.pool_law.specs.Logs.{present_in, root_beside, root_for}
-use Rattle.history_laws.specs.Histories.{IsHistory}
+use Rattle.history_laws.specs.Histories.{IsLawful}
 use Rattle.history_laws.proofs.Runs.{right_last}
 use Rattle.history_laws.proofs.Told.{place_fits}
 use Rattle.pool_table.specs.Letters.{letter_in, letter_out}
@@ -53,7 +53,7 @@ root_beside-is ItsWatch o r is = absurd (cc is)
 root_beside-is Nothing o r is = absurd (cc is)
 
 -- a note that is accepted tells of roots of its place alone
-pub plain_at : (s : Shape) (o : Object) (h : List Noted) (n : Noted) → IsObjectOf s o → IsHistory s o (h ++ n ∷ [])
+pub plain_at : (s : Shape) (o : Object) (h : List Noted) (n : Noted) → IsObjectOf s o → IsLawful s o (h ++ n ∷ [])
     → IsPlain o n
 plain_at s (Arena a) h n is more = let t = right_last (Arena a) h n more.right in (t.0, t.1)
 plain_at s (Cache d c) h n is more = let t = right_last (Cache d c) h n more.right in (t.0, t.1)

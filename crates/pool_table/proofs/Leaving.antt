@@ -19,7 +19,7 @@ use Rattle.pool_table.specs.Words.{word_of}
 use Rattle.pool_table.specs.declared.views.Layout.{Layout}
 use Rattle.pool_table.specs.declared.views.Inside.{Inside}
 use Rattle.pool_table.specs.declared.views.SeatView.{SeatView}
-use Rattle.pool_table.specs.Views.{ObjectView, parts_of, object_view, object_part, is_in, inside_total, spent, left}
+use Rattle.pool_table.specs.Views.{ObjectView, parts_of, object_view, object_part, is_in, inside_total, spent, after_leaving}
 use Rattle.pool_table.specs.Hands.{MayLeave}
 use Rattle.pool_table.proofs.Weights.{same_parts, counted_parts, settled_same, handy_parts, orderly_parts, enters_none}
 use Rattle.pool_table.proofs.Looks.{looks_same}
@@ -50,7 +50,7 @@ module _ {H : Type 0} (stands : List ℕ → Setting → List Noted → H → Ty
             ((slice_index s.words (word_of l.shape o) + (2 ^ 64 - 1)) % 2 ^ 64);
         homes =
             set s.homes (slot_of l.shape o) (some (Some home));
-        views = set s.views id (left v);
+        views = set s.views id (after_leaving v);
       }))
   idles_it id v o fits h home e leave stands_for s r wide at =
       let i : ℕ = home_of l.shape o in let d : ℕ = slot_of l.shape o in let k = r.objects o fits in let x : Inside =
@@ -73,7 +73,7 @@ module _ {H : Type 0} (stands : List ℕ → Setting → List Noted → H → Ty
       let sh : m < 4611686018427387904 = short stands l s r o fits in let sh' : n < 4611686018427387904 =
       omega (arith, sh, nm) in
       let down : (word + (2 ^ 64 - 1)) % 2 ^ 64 ≡ 2 * n = less_one stands l word n sh' w1 in
-      let w : SeatView = left v in
+      let w : SeatView = after_leaving v in
       let fine : IsView l.shape r.setting v = each_at (IsView l.shape r.setting) s.views id v r.views at in
       let wf : object_view l.shape i w ≡ record { parts = map (object_part l.shape i) (parts_of v); inside = None } =
       refl in
@@ -135,11 +135,12 @@ module _ {H : Type 0} (stands : List ℕ → Setting → List Noted → H → Ty
       (λ n. (n + (2 ^ 64 - 1)) % 2 ^ 64) (idles (step (slots_of l.shape) (word_of l.shape o) 1 0 none) (me.0, y)))
       (ap (λ (z : ℕ). (z, Some home) ∷ []) (sym is) ∙ sym has)
       (λ s r wide at _. let got = idles_it id me.0 o fits h home e leave stands_for s r wide at in (
-        left me.0,
+        after_leaving me.0,
         gives,
         tt,
         got.1,
         subst (λ (y : Option Inside). IfSome y
-            (λ (x : Inside). (slice_index s.words (word_of l.shape o) ≡ 2 * x.number + 1) × (left me.0 ≡ left me.0)
+            (λ (x : Inside). (slice_index s.words (word_of l.shape o) ≡ 2 * x.number + 1)
+            × (after_leaving me.0 ≡ after_leaving me.0)
             × (◌≡◌ {A = List (ℕ × Option H)} [] []))) (sym e) (got.0, refl, refl),
       ))

@@ -26,7 +26,7 @@ use Rattle.pool_law.specs.Logs.{present_in, root_for}
 use Rattle.pool_law.specs.Counts.{root_is}
 use Rattle.pool_law.specs.Roots.{RootPlace, Present, new_place, born, may_be_born, with_bytes, laid_over, bytes_at, zeros_to, place_step, place_step_by}
 use Rattle.pool_law.proofs.PatternLemmas.{same_root-refl}
-use Rattle.history_laws.specs.Histories.{IsHistory, IsPlaceAfter}
+use Rattle.history_laws.specs.Histories.{IsLawful, IsPlaceAfter}
 use Rattle.history_laws.specs.NoteCounts.{one_if_so, did_birth, did_birth_as, did_end, did_end_of}
 use Rattle.history_laws.proofs.BinSteps.{so}
 use Rattle.history_laws.proofs.Runs.{Runs, told, next_note}
@@ -89,7 +89,7 @@ module _ (p : ℕ) (r : RootId) where
     pub did : place_step p x n.did ≡ Some y
     pub root : n.root ≡ root_for n.did x.present
 
-  runs : (s : Shape) (h : List Noted) (x : RootPlace) → IsHistory s (Root p) h → IsPlaceAfter p h x
+  runs : (s : Shape) (h : List Noted) (x : RootPlace) → IsLawful s (Root p) h → IsPlaceAfter p h x
       → Runs Lays new_place h x
   runs s h x t e = told (place_step p) (Root p) (IsPlaceAfter p) Lays one h [] new_place x refl t.right e
     where

@@ -23,7 +23,7 @@ use Rattle.pool_law.specs.Logs.{present_in}
 use Rattle.pool_law.specs.Counts.{root_is}
 use Rattle.pool_law.specs.Kinds.{beside}
 use Rattle.pool_law.specs.Roots.{RootPlace, Present}
-use Rattle.history_laws.specs.Histories.{IsHistory, IsPlaceAfter, root_after}
+use Rattle.history_laws.specs.Histories.{IsLawful, IsPlaceAfter, root_after}
 use Rattle.history_laws.specs.NoteCounts.{one_if_so, did_birth, did_birth_of, did_birth_as, did_end, did_end_of, did_post_of, did_fetch_of}
 use Rattle.history_laws.proofs.Roots.{place_born, place_ends, of_birth}
 use Rattle.history_laws.proofs.Runs.{right_last}
@@ -63,7 +63,7 @@ module _ {H : Type 0} (stands : List ℕ → Setting → List Noted → H → Ty
   module _ (s : St) (r : IsSound stands l s) where
     -- a birth that may come next is the first one of its root
     first_birth : (q : RootId) (nd : Noted) (fits : IsObjectOf l.shape (Root q.place))
-        → IsHistory l.shape (Root q.place) ((r.objects (Root q.place) fits).history ++ nd ∷ [])
+        → IsLawful l.shape (Root q.place) ((r.objects (Root q.place) fits).history ++ nd ∷ [])
         → 0 < did_birth_as q.place q.generation q.capacity nd.did → sum_by (weigh (births q)) s.views ≡ 0
     first_birth q nd fits accepted lt =
         let p : ℕ = q.place in let g : ℕ = q.generation in
@@ -160,7 +160,7 @@ module _ {H : Type 0} (stands : List ℕ → Setting → List Noted → H → Ty
     -- the note of a section
     pub may_note : (id : ℕ) (v : SeatView) (o : Object) (fits : IsObjectOf l.shape o) (x : Inside) (k : ℕ) (nd : Noted)
         → get_elem? s.views id ≡ some v → v.inside ≡ Some x → x.object ≡ o → NoteStands l.shape v.own.number o nd
-        → PutsDown v nd.did → IsHistory l.shape o ((r.objects o fits).history ++ nd ∷ [])
+        → PutsDown v nd.did → IsLawful l.shape o ((r.objects o fits).history ++ nd ∷ [])
         → MayName s.views v (At o k nd)
     may_note id v o fits x k nd at inside on st hands accepted = record { fresh = fresh; known = known }
       where
@@ -172,7 +172,7 @@ module _ {H : Type 0} (stands : List ℕ → Setting → List Noted → H → Ty
             (λ (e : o ≡ Root q.place). e)
             (st.in_place.rooted q.place) in
             subst (λ (o : Object). (fits : IsObjectOf l.shape o)
-            → IsHistory l.shape o ((r.objects o fits).history ++ nd ∷ []) → sum_by (weigh (names q)) s.views ≡ 0)
+            → IsLawful l.shape o ((r.objects o fits).history ++ nd ∷ []) → sum_by (weigh (names q)) s.views ≡ 0)
             (sym place) (λ fits accepted. unborn stands l s r q fits (first_birth q nd fits accepted lt)) fits accepted
 
         on_root_there : (q : RootId) → root_is q nd.root ≡ true → 0 < weigh (names q) v
@@ -181,7 +181,7 @@ module _ {H : Type 0} (stands : List ℕ → Setting → List Noted → H → Ty
             let may : MayEnter q.place v =
             (each_at (IsView l.shape r.setting) s.views id v r.views at).enters x q.place inside (on ∙ place) in
             subst (λ (o : Object). (fits : IsObjectOf l.shape o)
-            → IsHistory l.shape o ((r.objects o fits).history ++ nd ∷ []) → 0 < weigh (names q) v)
+            → IsLawful l.shape o ((r.objects o fits).history ++ nd ∷ []) → 0 < weigh (names q) v)
             (sym place)
             (λ fits accepted. let h : List Noted = (r.objects (Root q.place) fits).history in
             let told = sym (right_last (Root q.place) h nd accepted.right).0 ∙ told_root q nd.root is in

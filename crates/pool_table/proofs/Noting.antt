@@ -20,7 +20,7 @@ use Rattle.pool_table.specs.Slots.{slots_of, slot_of}
 use Rattle.pool_table.proofs.Slots.{slot_within}
 use Rattle.history_laws.specs.Measures.{measures_of}
 use Rattle.pool_table.specs.Words.{word_of}
-use Rattle.history_laws.specs.Histories.{IsHistory}
+use Rattle.history_laws.specs.Histories.{IsLawful}
 use Rattle.pool_law.specs.Naming.{noted_by}
 use Rattle.pool_table.specs.declared.views.Entry.{Entry}
 use Rattle.pool_table.specs.declared.views.Entry.TheVariants.{At}
@@ -135,7 +135,7 @@ module _ {H : Type 0} (stands : List ℕ → Setting → List Noted → H → Ty
   -- the object of a birth or an end is the root place
   births_noted : (s : State (Option H) SeatView) (r : IsSound stands l s) (id : ℕ) (v : SeatView) (o : Object)
       (fits : IsObjectOf l.shape o) (nd : Noted) → get_elem? s.views id ≡ some v → IsRooted o nd.did → PutsAt v nd.did
-      → IsHistory l.shape o ((r.objects o fits).history ++ nd ∷ []) → (p : ℕ)
+      → IsLawful l.shape o ((r.objects o fits).history ++ nd ∷ []) → (p : ℕ)
       → (did_birth p nd.did + did_home p nd.did ≡ 0)
       ⊎ ((did_birth p nd.did + did_home p nd.did ≡ 1) × InHand p v × NoneWaits p v)
   births_noted s r id v o fits nd at root hands accepted p = ⊎_elim
@@ -151,7 +151,7 @@ module _ {H : Type 0} (stands : List ℕ → Setting → List Noted → H → Ty
             (λ (z : (did_birth p nd.did ≡ 0) × ((g : ℕ) → did_end p g nd.did ≡ 0)). let z0 = z.0 in
             absurd (omega (arith, z0, b0)))
             (λ (e : o ≡ Root p). subst (λ (o : Object). (fits : IsObjectOf l.shape o)
-            → IsHistory l.shape o ((r.objects o fits).history ++ nd ∷ []) → NoneWaits p v) (sym e)
+            → IsLawful l.shape o ((r.objects o fits).history ++ nd ∷ []) → NoneWaits p v) (sym e)
             (λ lt acc. birth_alone stands l s r id p v lt nd at acc p some_birth) fits accepted)
             (root p),
       ))
@@ -162,7 +162,7 @@ module _ {H : Type 0} (stands : List ℕ → Setting → List Noted → H → Ty
 
   ends_noted : (s : State (Option H) SeatView) (r : IsSound stands l s) (id : ℕ) (v : SeatView) (o : Object)
       (fits : IsObjectOf l.shape o) (nd : Noted) → get_elem? s.views id ≡ some v → IsRooted o nd.did → PutsAt v nd.did
-      → IsHistory l.shape o ((r.objects o fits).history ++ nd ∷ []) → (p g : ℕ)
+      → IsLawful l.shape o ((r.objects o fits).history ++ nd ∷ []) → (p g : ℕ)
       → (did_end p g nd.did ≡ 0) ⊎ ((did_end p g nd.did ≡ 1) × (weigh (at_end p g) v < weigh (on_root ref_ended p g) v))
   ends_noted s r id v o fits nd at root hands accepted p g = ⊎_elim
       (λ (z : did_end p g nd.did ≡ 0). inl z)
@@ -172,7 +172,7 @@ module _ {H : Type 0} (stands : List ℕ → Setting → List Noted → H → Ty
             (λ (z : (did_birth p nd.did ≡ 0) × ((g : ℕ) → did_end p g nd.did ≡ 0)). let z1 = z.1 g in
             absurd (omega (arith, z1, b)))
             (λ (e : o ≡ Root p). subst (λ (o : Object). (fits : IsObjectOf l.shape o)
-            → IsHistory l.shape o ((r.objects o fits).history ++ nd ∷ [])
+            → IsLawful l.shape o ((r.objects o fits).history ++ nd ∷ [])
             → weigh (at_end p g) v < weigh (on_root ref_ended p g) v) (sym e)
             (λ lt acc. end_first stands l s r id p v lt nd at acc g some_end (hands.token p g some_end)) fits
             accepted)
@@ -184,7 +184,7 @@ module _ {H : Type 0} (stands : List ℕ → Setting → List Noted → H → Ty
   notes_it : (id : ℕ) (v : SeatView) (o : Object) (fits : IsObjectOf l.shape o) (h : List Noted) (home : H) (nd : Noted)
       → v.inside ≡ Some (record { object = o; number = length h; history = h }) → 0 < v.turns
       → nd.lane ≡ v.own.number → Stands l.shape v.own.number (At o (length h + 1) nd) → PutsDown v nd.did
-      → IsHistory l.shape o (h ++ nd ∷ []) → StandsFor stands (measures_of l.shape o) v (h ++ nd ∷ []) home
+      → IsLawful l.shape o (h ++ nd ∷ []) → StandsFor stands (measures_of l.shape o) v (h ++ nd ∷ []) home
       → (s : State (Option H) SeatView) (r : IsSound stands l s) → length s.homes ≡ slots_of l.shape
       → get_elem? s.views id ≡ some v
       → ((slice_index s.words (word_of l.shape o) ≡ 2 * length h + 1)
@@ -228,7 +228,7 @@ module _ {H : Type 0} (stands : List ℕ → Setting → List Noted → H → Ty
       (object_part l.shape i v.own)
       (map (object_part l.shape i) v.others) x o nd home k there lane
       (λ q own. alone_in stands l s r id i q v at (sym lane ∙ own))
-      (subst (λ (g : List Noted). IsHistory l.shape o (g ++ nd ∷ [])) hk accepted)
+      (subst (λ (g : List Noted). IsLawful l.shape o (g ++ nd ∷ [])) hk accepted)
       (subst (λ (g : List Noted). stands (measures_of l.shape o) r.setting (g ++ nd ∷ []) home) hk gs) in
       let inside : d < length s.homes = subst (λ (z : ℕ). d < z) (sym wide) (slot_within l.shape o fits) in
       let kept' : IsKept stands l.shape r.setting o (set object_views id (object_view l.shape i w))
@@ -258,9 +258,9 @@ module _ {H : Type 0} (stands : List ℕ → Setting → List Noted → H → Ty
             (λ p lt. (puts.home p lt).0) fine.handy)
             (orderly_entry v ent (v.turns - 1) (λ f p g c. refl) (λ f p g. refl) (λ f p. refl)
             (λ p. births_noted s r id v o fits nd at may.in_place.rooted puts
-            (subst (λ (g : List Noted). IsHistory l.shape o (g ++ nd ∷ [])) hk accepted) p)
+            (subst (λ (g : List Noted). IsLawful l.shape o (g ++ nd ∷ [])) hk accepted) p)
             (λ p g. ends_noted s r id v o fits nd at may.in_place.rooted puts
-            (subst (λ (g : List Noted). IsHistory l.shape o (g ++ nd ∷ [])) hk accepted) p g)
+            (subst (λ (g : List Noted). IsLawful l.shape o (g ++ nd ∷ [])) hk accepted) p g)
             (λ q. note_handles q v o (length h + 1) nd hands) fine.roots) fine
             (not_idle stands l r.setting v fine turn) may)
             (let a = spent_entry stands l v ent (v.turns - 1) in let p : ℕ = spent w in let q : ℕ = spent v in
@@ -280,10 +280,10 @@ module _ {H : Type 0} (stands : List ℕ → Setting → List Noted → H → Ty
             (known_entry s.views id v w ent at refl
             (note_tells stands l s r (set s.views id w) o fits (length h + 1) v.own.number nd
             (entry_grows s.views id v w ent at refl) (entry_counts s.views id v w ent at refl) may
-            (subst (λ (g : List Noted). IsHistory l.shape o (g ++ nd ∷ [])) hk accepted)) r.known)
+            (subst (λ (g : List Noted). IsLawful l.shape o (g ++ nd ∷ [])) hk accepted)) r.known)
             (lone_entry s.views id v w ent at refl
             (may_note stands l s r id v o fits x (length h + 1) nd at e refl may hands
-            (subst (λ (g : List Noted). IsHistory l.shape o (g ++ nd ∷ [])) hk accepted)) r.lone)
+            (subst (λ (g : List Noted). IsLawful l.shape o (g ++ nd ∷ [])) hk accepted)) r.lone)
             (mailed_entry s.views id v w ent at refl refl (none_in l.shape o fits (length h + 1) (passing nd.did))
             (none_out l.shape o fits (length h + 1) (passing nd.did)) r.mailed)
             (length-set s.homes d (some (Some home))) (λ j ne. set_else s.homes d j (some (Some home)) ne) kept',
@@ -298,7 +298,7 @@ module _ {H : Type 0} (stands : List ℕ → Setting → List Noted → H → Ty
       → me.0.inside ≡ Some (record { object = o; number = length h; history = h }) → me.1 ≡ (slot, Some home) ∷ []
       → 0 < me.0.turns
       → MayNote l.shape me.0.own.number o note.did → PutsDown me.0 note.did
-      → IsHistory l.shape o (h ++ noted_by me.0.own.number note ∷ [])
+      → IsLawful l.shape o (h ++ noted_by me.0.own.number note ∷ [])
       → StandsFor stands (measures_of l.shape o) me.0 (h ++ noted_by me.0.own.number note ∷ []) home
       → Allows (IsSound stands l) (slots_of l.shape) id me (word_of l.shape o) (λ n. (n + 1) % 2 ^ 64)
       (dones note (step (slots_of l.shape) (word_of l.shape o) 1 0 none) me)

@@ -13,7 +13,7 @@ use Rattle.pool_law.specs.declared.run.Shape.{Shape}
 use Rattle.pool_law.specs.declared.note.Held.{Held}
 use Rattle.pool_law.specs.declared.note.Noted.{Noted}
 use Rattle.pool_law.specs.declared.note.Object.{Object}
-use Rattle.history_laws.specs.Histories.{IsHistory}
+use Rattle.history_laws.specs.Histories.{IsLawful}
 use Rattle.history_laws.specs.Measures.{measures_of}
 use Rattle.pool_table.specs.declared.views.Entry.{Entry}
 use Rattle.pool_table.specs.declared.views.Entry.TheVariants.{At, Busy}
@@ -148,7 +148,7 @@ module _ {H : Type 0} (stands : List ℕ → Setting → List Noted → H → Ty
       → ((m : ℕ) → nd.lane ≡ Some m → All (λ (r : Part). is_lane m r.number ≡ false) ps
       × ((j : ℕ) (f : ObjectView) → j ≢ id → get_elem? object_views j ≡ some f
       → All (λ (r : Part). is_lane m r.number ≡ false) f.parts))
-      → IsHistory shape o (k.history ++ nd ∷ []) → stands (measures_of shape o) setting (k.history ++ nd ∷ []) y
+      → IsLawful shape o (k.history ++ nd ∷ []) → stands (measures_of shape o) setting (k.history ++ nd ∷ []) y
       → K (set object_views id (record {
         parts = record
             { number = p.number; notes = p.notes ++ At q (length k.history + 1) nd ∷ [] } ∷ ps;

@@ -18,7 +18,7 @@ use Rattle.pool_law.specs.declared.note.Did.TheVariants.{Birth}
 use Rattle.pool_law.specs.declared.note.Object.{Object}
 use Rattle.pool_law.specs.declared.note.Object.TheVariants.{Root}
 use Rattle.pool_law.specs.Homes.{IsObjectOf}
-use Rattle.history_laws.specs.Histories.{IsHistory, IsPlaceAfter, root_after}
+use Rattle.history_laws.specs.Histories.{IsLawful, IsPlaceAfter, root_after}
 use Rattle.history_laws.specs.NoteCounts.{did_birth, did_birth_of, did_end}
 use Rattle.pool_law.specs.Roots.{Present, RootPlace}
 use Rattle.history_laws.proofs.PlaceSteps.{root_in}
@@ -53,7 +53,7 @@ module _ {H : Type 0} (stands : List ℕ → Setting → List Noted → H → Ty
   St = State (Option H) SeatView
 
   -- where no end of the last root is noted, it is present
-  last_present : (s : Shape) (p g : ℕ) (h : List Noted) (x : RootPlace) → IsHistory s (Root p) h → IsPlaceAfter p h x
+  last_present : (s : Shape) (p g : ℕ) (h : List Noted) (x : RootPlace) → IsLawful s (Root p) h → IsPlaceAfter p h x
       → x.generation ≡ g → 0 < g → sum_by (λ (e : Noted). did_end p g e.did) h ≡ 0 → IsPresentIn p g h
   last_present s p g h x t after same pos z = one (root_in x) refl
     where
@@ -260,7 +260,7 @@ module _ {H : Type 0} (stands : List ℕ → Setting → List Noted → H → Ty
   -- a view that may note a birth has none that waits
   pub birth_alone : (s : St) (r : IsSound stands l s) (id p : ℕ) (v : SeatView)
       (lt : p < l.shape.lanes * l.shape.handles) (e : Noted) → get_elem? s.views id ≡ some v
-      → IsHistory l.shape (Root p) ((r.objects (Root p) lt).history ++ e ∷ []) → (q : ℕ) → 0 < did_birth q e.did
+      → IsLawful l.shape (Root p) ((r.objects (Root p) lt).history ++ e ∷ []) → (q : ℕ) → 0 < did_birth q e.did
       → NoneWaits p v
   birth_alone s r id p v lt e at accepted q here =
       let k = r.counts p lt in let h = (r.objects (Root p) lt).history in let last =
@@ -287,7 +287,7 @@ module _ {H : Type 0} (stands : List ℕ → Setting → List Noted → H → Ty
 
   -- a view that may note an end hasn't noted it
   pub end_first : (s : St) (r : IsSound stands l s) (id p : ℕ) (v : SeatView) (lt : p < l.shape.lanes * l.shape.handles)
-      (e : Noted) → get_elem? s.views id ≡ some v → IsHistory l.shape (Root p)
+      (e : Noted) → get_elem? s.views id ≡ some v → IsLawful l.shape (Root p)
       ((r.objects (Root p) lt).history ++ e ∷ []) → (g : ℕ) → 0 < did_end p g e.did → TokenAt p g v
       → weigh (at_end p g) v < weigh (on_root ref_ended p g) v
   end_first s r id p v lt e at accepted g here has =

@@ -19,7 +19,7 @@ use Rattle.pool_law.specs.Same.{same_taking}
 use Rattle.pool_law.specs.Arenas.{Arena as ArenaState, is_out_of}
 use Rattle.pool_law.specs.Caches.{Cache as CacheState}
 use Rattle.pool_law.specs.Roots.{RootPlace}
-use Rattle.history_laws.specs.Histories.{IsHistory, IsArenaAfter}
+use Rattle.history_laws.specs.Histories.{IsLawful, IsArenaAfter}
 use Rattle.history_laws.specs.Standing.{IsRegioned}
 use Rattle.history_laws.specs.NoteCounts.{is_taking, has_number, weight_or, arena_out, arena_in, cache_out, cache_in, place_out, place_in}
 use Rattle.history_laws.proofs.ArenaTakings.{arena_laws, at_most}
@@ -147,13 +147,13 @@ module _ {H : Type 0} (stands : List ℕ → Setting → List Noted → H → Ty
   module _ (s : St) (r : IsSound stands l s) (id : ℕ) (v : SeatView) (at : get_elem? s.views id ≡ some v) (q : RegionId)
       (n : Noted) where
     from_arenas : (a : ℕ) (fits : IsObjectOf l.shape (Arena a))
-        → IsHistory l.shape (Arena a) ((r.objects (Arena a) fits).history ++ n ∷ []) → 0 < arena_out (is_taking q) n.did
+        → IsLawful l.shape (Arena a) ((r.objects (Arena a) fits).history ++ n ∷ []) → 0 < arena_out (is_taking q) n.did
         → IsPutDown q v
     from_arenas a fits more lt = ⊎_elim
         (λ (z : arena_out (is_taking q) n.did + arena_in (is_taking q) n.did ≡ 0). absurd (omega (arith, z, lt)))
         (λ (e : Arena a ≡ Arena q.place.arena). let is : a ≡ q.place.arena = cc e in
         subst (λ (b : ℕ). (fits : IsObjectOf l.shape (Arena b))
-        → IsHistory l.shape (Arena b) ((r.objects (Arena b) fits).history ++ n ∷ []) → IsPutDown q v) (sym is)
+        → IsLawful l.shape (Arena b) ((r.objects (Arena b) fits).history ++ n ∷ []) → IsPutDown q v) (sym is)
         (λ fits more. let h = (r.objects (Arena q.place.arena) fits).history in let k =
         (r.objects (Arena q.place.arena) fits).accepted in
         let x = arena_there l.shape q.place.arena h k in let out =
@@ -173,7 +173,7 @@ module _ {H : Type 0} (stands : List ℕ → Setting → List Noted → H → Ty
         in_no_hand stands l s r id v q side.0 sp.0 sp.1 at side.1 sp.2 (omega (arith, most, lt))
 
     from_caches : (d c : ℕ) (fits : IsObjectOf l.shape (Cache d c))
-        → IsHistory l.shape (Cache d c) ((r.objects (Cache d c) fits).history ++ n ∷ [])
+        → IsLawful l.shape (Cache d c) ((r.objects (Cache d c) fits).history ++ n ∷ [])
         → 0 < cache_out (is_taking q) n.did → IsPutDown q v
     from_caches d c fits more lt =
         let h = (r.objects (Cache d c) fits).history in let x =
@@ -186,7 +186,7 @@ module _ {H : Type 0} (stands : List ℕ → Setting → List Noted → H → Ty
         from_holder sp (omega (arith, low, a, b, le, lt))
 
     from_places : (p : ℕ) (fits : IsObjectOf l.shape (Root p))
-        → IsHistory l.shape (Root p) ((r.objects (Root p) fits).history ++ n ∷ []) → 0 < place_out (is_taking q) n
+        → IsLawful l.shape (Root p) ((r.objects (Root p) fits).history ++ n ∷ []) → 0 < place_out (is_taking q) n
         → IsPutDown q v
     from_places p fits more lt =
         let h = (r.objects (Root p) fits).history in let x =
@@ -199,7 +199,7 @@ module _ {H : Type 0} (stands : List ℕ → Setting → List Noted → H → Ty
         from_holder sp (omega (arith, low, a, b, le, lt))
 
     pub next_free : (o : Object) (fits : IsObjectOf l.shape o)
-        → IsHistory l.shape o ((r.objects o fits).history ++ n ∷ []) → 0 < did_take_up q n → IsPutDown q v
+        → IsLawful l.shape o ((r.objects o fits).history ++ n ∷ []) → 0 < did_take_up q n → IsPutDown q v
     next_free o fits more lt =
         let st = regioned l.shape o (r.objects o fits).history n more q in
         dite (ℕ_discrete (arena_out (is_taking q) n.did) 0)
@@ -207,18 +207,18 @@ module _ {H : Type 0} (stands : List ℕ → Setting → List Noted → H → Ty
         (λ zc. let lp : 0 < place_out (is_taking q) n = omega (arith, lt, za, zc) in ⊎_elim
         (λ (z : place_out (is_taking q) n + place_in (is_taking q) n.did ≡ 0). absurd (omega (arith, z, lp)))
         (λ (e : (p : ℕ) × (o ≡ Root p)). subst
-        (λ (o : Object). (fits : IsObjectOf l.shape o) → IsHistory l.shape o ((r.objects o fits).history ++ n ∷ [])
+        (λ (o : Object). (fits : IsObjectOf l.shape o) → IsLawful l.shape o ((r.objects o fits).history ++ n ∷ [])
         → IsPutDown q v) (sym e.1) (λ fits more. from_places e.0 fits more lp) fits more)
         st.place)
         (λ nc. let lc : 0 < cache_out (is_taking q) n.did = omega (arith, nc) in ⊎_elim
         (λ (z : cache_out (is_taking q) n.did + cache_in (is_taking q) n.did ≡ 0). absurd (omega (arith, z, lc)))
         (λ (e : (d : ℕ) × (c : ℕ) × (o ≡ Cache d c)). subst
-        (λ (o : Object). (fits : IsObjectOf l.shape o) → IsHistory l.shape o ((r.objects o fits).history ++ n ∷ [])
+        (λ (o : Object). (fits : IsObjectOf l.shape o) → IsLawful l.shape o ((r.objects o fits).history ++ n ∷ [])
         → IsPutDown q v) (sym e.2) (λ fits more. from_caches e.0 e.1 fits more lc) fits more)
         st.cache))
         (λ na. let la : 0 < arena_out (is_taking q) n.did = omega (arith, na) in ⊎_elim
         (λ (z : arena_out (is_taking q) n.did + arena_in (is_taking q) n.did ≡ 0). absurd (omega (arith, z, la)))
         (λ (e : o ≡ Arena q.place.arena). subst
-        (λ (o : Object). (fits : IsObjectOf l.shape o) → IsHistory l.shape o ((r.objects o fits).history ++ n ∷ [])
+        (λ (o : Object). (fits : IsObjectOf l.shape o) → IsLawful l.shape o ((r.objects o fits).history ++ n ∷ [])
         → IsPutDown q v) (sym e) (λ fits more. from_arenas q.place.arena fits more la) fits more)
         st.arena)

@@ -29,7 +29,7 @@ use Rattle.pool_table.specs.Learned.{KnowsCounts}
 use Rattle.pool_table.specs.Mailing.{MaySend, MayReceive, HoldsParcel}
 use Rattle.pool_table.specs.SeatFields.{IsSeatWith}
 use Rattle.pool_table.specs.Steps.{claims, marks_claims, dones, idles, births, releases, receives_with}
-use Rattle.pool_table.specs.Views.{left, with_entry}
+use Rattle.pool_table.specs.Views.{after_leaving, with_entry}
 use Rattle.pool_table.proofs.Counting.{counts_entry, counts_ref, counts_sent}
 use Rattle.pool_table.proofs.After.{after_fetch}
 use Rattle.pool_table.proofs.Calls.{got_in}
@@ -160,8 +160,8 @@ module _ (number : Option ℕ) (letter : Option Letter) (counts : List ℕ) wher
         → me.0.inside ≡ Some x → idles s me found after → Fits me.0 → Fits after.0
     fits_idles x s me after found inside told old =
         let t = subst (λ (i : Option Inside). IfSome i (λ (x : Inside). (found ≡ 2 * x.number + 1)
-        × (after.0 ≡ left me.0) × (after.1 ≡ rest me.1))) inside told in
-        fits_as (left me.0) after.0 t.1
+        × (after.0 ≡ after_leaving me.0) × (after.1 ≡ rest me.1))) inside told in
+        fits_as (after_leaving me.0) after.0 t.1
         (record { numbered = old.numbered; lettered = old.lettered; counted = old.counted })
 
     -- a claim got in, or found another seat there

@@ -20,7 +20,7 @@ use Rattle.pool_law.specs.Same.{same_root}
 use Rattle.pool_law.specs.Counts.{root_is}
 use Rattle.pool_law.specs.Kinds.{beside}
 use Rattle.pool_law.specs.Roots.{RootPlace, Present, new_place, born}
-use Rattle.history_laws.specs.Histories.{IsHistory, IsPlaceAfter}
+use Rattle.history_laws.specs.Histories.{IsLawful, IsPlaceAfter}
 use Rattle.history_laws.specs.NoteCounts.{one_if_so, is_root, did_birth_of, did_birth_as, did_end_of, did_post_of, did_fetch_of}
 use Rattle.history_laws.proofs.Roots.{place_born, of_birth, its_birth}
 use Rattle.history_laws.proofs.Runs.{Runs}
@@ -134,7 +134,7 @@ module _ (p : ℕ) (r : RootId) where
           ∙ same)
       still d (Ended e) none w is same = let both : Some w ≡ None = sym is ∙ e.gone in absurd (cc both)
 
-  never_told : (s : Shape) (h : List Noted) → IsHistory s (Root p) h
+  never_told : (s : Shape) (h : List Noted) → IsLawful s (Root p) h
       → sum_by (λ (n : Noted). did_birth_as r.place r.generation r.capacity n.did) h ≡ 0 → sum_by (access r) h ≡ 0
   never_told s h t none =
       let x = place_there s p h t in

@@ -13,7 +13,7 @@ use Rattle.pool_law.specs.Roots.{RootPlace}
 use Rattle.pool_table.specs.Holders.{AreStates, IsInOneHold}
 use Rattle.pool_law.specs.declared.note.Object.{Object}
 use Rattle.pool_law.specs.Homes.{home_of, objects_of, IsObjectOf}
-use Rattle.history_laws.specs.Histories.{IsHistory}
+use Rattle.history_laws.specs.Histories.{IsLawful}
 use Rattle.history_laws.specs.Measures.{measures_of}
 use Rattle.pool_table.specs.declared.views.Layout.{Layout}
 use Rattle.pool_table.specs.declared.views.SeatView.{SeatView}
@@ -36,7 +36,7 @@ pub record IsWhole {H : Type 0}
     (stands : List ℕ → Setting → List Noted → H → Type 0) (shape : Shape)
     (v : SeatView) (o : Object) (word : ℕ) (homes : List (Option H)) : Type 0 where
   pub history : List Noted
-  pub accepted : IsHistory shape o history
+  pub accepted : IsLawful shape o history
   pub word_is : word ≡ 2 * length history
   pub told : All (IsTold o history (length history)) (object_view shape (home_of shape o) v).parts
   pub once : (k : ℕ) → k < length history →

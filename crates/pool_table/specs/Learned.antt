@@ -13,7 +13,7 @@ use Rattle.pool_law.specs.NotedHistories.{MayNote}
 use Rattle.pool_law.specs.Arenas.{Arena as ArenaState, is_out_of}
 use Rattle.pool_law.specs.Caches.{Cache as CacheState}
 use Rattle.pool_law.specs.Roots.{Present, RootPlace}
-use Rattle.history_laws.specs.Histories.{IsHistory, root_after, IsPlaceAfter, IsArenaAfter, IsCacheAfter, IsBinAfter}
+use Rattle.history_laws.specs.Histories.{IsLawful, root_after, IsPlaceAfter, IsArenaAfter, IsCacheAfter, IsBinAfter}
 use Rattle.history_laws.specs.NoteCounts.{one_if_so, is_taking, has_number, arena_out, cache_out, place_out}
 use Rattle.history_laws.specs.Measures.{measures_of}
 use Rattle.pool_table.specs.declared.views.Entry.{Entry}
@@ -98,7 +98,7 @@ pub record Enters {H : Type 0}
     (stands : List ℕ → Setting → List Noted → H → Type 0) (l : Layout)
     (o : Object) (v : SeatView) (h : List Noted) (x : H) : Type 0 where
   pub object : IsObjectOf l.shape o
-  pub accepted : IsHistory l.shape o h
+  pub accepted : IsLawful l.shape o h
   pub stands_for : IfSome v.setting (λ (g : Setting). stands (measures_of l.shape o) g h x)
   pub short : length h < 4611686018427387904
   -- the seat's own counts and hands are in order, and the uses of what is in hand are few
@@ -111,7 +111,7 @@ pub record Enters {H : Type 0}
   -- no taking is in hand twice
   pub once : (q : RegionId) → weight_taken (is_taking q) v ≤ weight_put_down (is_taking q) v + 1
   -- what a note that may come next takes up isn't in hand yet
-  pub free : (q : RegionId) (n : Noted) → IsHistory l.shape o (h ++ n ∷ []) → 0 < did_take_up q n →
+  pub free : (q : RegionId) (n : Noted) → IsLawful l.shape o (h ++ n ∷ []) → 0 < did_take_up q n →
       IsPutDown q v
   pub root : (p : ℕ) → o ≡ Root p → TellsRoot l p v h
   -- a region in hand is out of its arena, with this place, class and owner

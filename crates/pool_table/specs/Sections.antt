@@ -9,7 +9,7 @@ use Rattle.pool_law.specs.declared.note.Held.{Held}
 use Rattle.pool_law.specs.declared.note.Object.{Object}
 use Rattle.pool_law.specs.Homes.{IsObjectOf}
 use Rattle.pool_law.specs.Naming.{noted_by}
-use Rattle.history_laws.specs.Histories.{IsHistory}
+use Rattle.history_laws.specs.Histories.{IsLawful}
 use Rattle.history_laws.specs.Measures.{measures_of}
 use Rattle.pool_table.specs.declared.views.Entry.TheVariants.{Busy}
 use Rattle.pool_table.specs.declared.views.Layout.{Layout}
@@ -70,7 +70,7 @@ module _ {H : Type 0} {G : Ghosts H Noted}
     pub history : List Noted
     pub inside : IsInside s seat.seat.me section.object section.slot history
     pub follows :
-        IsHistory s section.object (history ++ noted_by (view_of seat).own.number note ∷ [])
+        IsLawful s section.object (history ++ noted_by (view_of seat).own.number note ∷ [])
     pub stands_for :
         StandsFor stands (measures_of s section.object) (view_of seat)
         (history ++ noted_by (view_of seat).own.number note ∷ [])

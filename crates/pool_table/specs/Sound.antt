@@ -16,7 +16,7 @@ use Rattle.pool_law.specs.Homes.{home_of, objects_of, IsObjectOf}
 use Rattle.history_laws.specs.Measures.{measures_of}
 use Rattle.pool_table.specs.Words.{words_of, word_of, count_word_of}
 use Rattle.pool_table.specs.Slots.{slot_at, slots_of, slot_of}
-use Rattle.history_laws.specs.Histories.{IsHistory, root_after}
+use Rattle.history_laws.specs.Histories.{IsLawful, root_after}
 use Rattle.history_laws.specs.Standing.{IsInPlace}
 use Rattle.pool_table.specs.declared.views.Entry.{Entry}
 use Rattle.pool_table.specs.declared.views.Entry.TheVariants.{At, Ref, Busy}
@@ -88,7 +88,7 @@ pub record IsKept {H : Type 0}
     (shape : Shape) (setting : Setting) (o : Object)
     (object_views : List ObjectView) (word : ℕ) (home : maybe.Option (maybe.Option (Option H))) : Type 0 where
   pub history : List Noted
-  pub accepted : IsHistory shape o history
+  pub accepted : IsLawful shape o history
   -- the word is twice the number of notes, and odd where a view is in the section
   pub word_is : word ≡ 2 * length history + inside_total object_views
   -- no two views are

@@ -13,7 +13,7 @@ use Rattle.pool_table.specs.declared.views.Layout.{Layout}
 use Rattle.pool_table.specs.declared.views.Part.{Part}
 use Rattle.pool_table.specs.declared.views.Inside.{Inside}
 use Rattle.pool_table.specs.declared.views.SeatView.{SeatView}
-use Rattle.pool_table.specs.Views.{empty_part, blank, entered, left, with_entry}
+use Rattle.pool_table.specs.Views.{empty_part, blank, entered, after_leaving, with_entry}
 use Rattle.pool_law.specs.declared.id.RootId.{RootId}
 use Rattle.pool_law.specs.declared.id.Parcel.{Parcel}
 use Rattle.pool_law.specs.declared.note.RefDid.TheVariants.{Born, Retain, Kept, Ended, Vacated, Look}
@@ -206,7 +206,7 @@ module _ {H : Type 0} where
   abbrev pub idles : StepRelation H
   idles s me found after =
       IfSome me.0.inside (λ (x : Inside).
-      (found ≡ 2 * x.number + 1) × (after.0 ≡ left me.0) × (after.1 ≡ rest me.1))
+      (found ≡ 2 * x.number + 1) × (after.0 ≡ after_leaving me.0) × (after.1 ≡ rest me.1))
 
   -- nothing changes, and the seat learns of its counts
   abbrev pub stays : Layout → StepRelation H

@@ -126,8 +126,8 @@ blank setting =
 abbrev pub entered : SeatView → Object → List Noted → ℕ → SeatView
 entered v o h n = record v { inside = Some (record { object = o; number = n; history = h }) }
 
-abbrev pub left : SeatView → SeatView
-left v = record v { inside = None }
+abbrev pub after_leaving : SeatView → SeatView
+after_leaving v = record v { inside = None }
 
 -- the view with one entry more
 abbrev pub with_entry : SeatView → Entry → ℕ → SeatView

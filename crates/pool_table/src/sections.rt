@@ -12,7 +12,7 @@ ghost use Rattle.pool_table.specs.Counts.{CountsOne};
 ghost use Rattle.pool_table.specs.Words.{word_of};
 ghost use Rattle.pool_table.specs.Slots.{slots_of};
 ghost use Rattle.pool_table.specs.Hands.{MayEnter};
-ghost use Rattle.pool_table.specs.Views.{left, with_entry};
+ghost use Rattle.pool_table.specs.Views.{after_leaving, with_entry};
 ghost use Rattle.pool_law.specs.NotedHistories.{MayNote};
 ghost use Rattle.pool_table.specs.Sound.{IsMarked};
 ghost use Rattle.pool_table.specs.Seats.{view_of, IsSeatOf, IsOutside, HasView, SameSeat};
@@ -146,7 +146,7 @@ impl<H: Told<Note = Noted>> PoolTable<H> {
         requires section { MayIdle H.stands self.now.layout.shape seat.old section }
         requires leaves { MayLeave (view_of seat.old) section.object }
         ensures same { SameSeat seat.old seat.new }
-        ensures left { HasView seat.new (left (view_of seat.old)) }
+        ensures left { HasView seat.new (after_leaving (view_of seat.old)) }
     {
         let Section {
             home,

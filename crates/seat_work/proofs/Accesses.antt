@@ -16,7 +16,7 @@ use Rattle.pool_table.specs.Lone.{IsLone, own_bytes}
 use Rattle.pool_table.specs.Numbers.{IsAbove}
 use Rattle.shared_pool.specs.SeatViews.{view_of, HasView}
 use Rattle.pool_table.specs.Views.{with_entry}
-use Rattle.history_laws.specs.Histories.{IsHistory}
+use Rattle.history_laws.specs.Histories.{IsLawful}
 use Rattle.shared_pool.specs.declared.pool.SharedPool.{SharedPool}
 use Rattle.pool_table.specs.Letters.{sent_on}
 use Rattle.shared_pool.specs.RootNotes.{access, IsSetOver}
@@ -101,7 +101,7 @@ noted_same pool old mid new number o n same noted = record {
   history = noted.history;
   number_is = noted.number_is;
   accepted =
-      subst (λ (v : SeatView). IsHistory pool.table.layout.shape (o v)
+      subst (λ (v : SeatView). IsLawful pool.table.layout.shape (o v)
       (noted.history ++ noted_by v.own.number n ∷ [])) same noted.accepted;
   above = subst (λ (v : SeatView). IsAbove (o v) number v.own.notes) same noted.above;
   seat =
@@ -119,7 +119,7 @@ set_same pool old mid new root number offset before bytes same over = let n = ac
     record {
       noted = noted_same pool old mid new number (λ v. Root root.place) n same over.noted;
       there =
-          subst (λ (v : SeatView). IsHistory pool.table.layout.shape (Root root.place)
+          subst (λ (v : SeatView). IsLawful pool.table.layout.shape (Root root.place)
           (over.noted.history ++ noted_by v.own.number (access root (Did.Get offset before)) ∷ [])) same over.there;
       lone =
           subst (λ (v : SeatView). IsLone root v → before ≡ bytes_at (own_bytes root v) offset (length before)) same

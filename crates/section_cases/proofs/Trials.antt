@@ -11,7 +11,7 @@ use Rattle.history_laws.proofs.Apart.{home_within}
 use Rattle.pool_law.specs.Caches.{new_bin, bin_step}
 use Rattle.pool_law.specs.Histories.{after}
 use Rattle.pool_law.specs.Naming.{noted_by}
-use Rattle.history_laws.specs.Histories.{IsHistory}
+use Rattle.history_laws.specs.Histories.{IsLawful}
 
 -- a value that each of the homes is, each object's is
 pub each_stands : {H : Type 0} (s : Shape) (homes : List H) (P : H → Type 0) → length homes ≡ objects_of s → All P homes
@@ -33,11 +33,11 @@ none_of (x ∷ xs) e = absurd (omega (arith, e))
 
 -- the first note of the first bin of lanes with one handle each
 pub first_handle : (s : Shape) (o : Object) (h : List Noted) (lane : Option ℕ) → s.handles ≡ 1 → o ≡ Bin 0 → h ≡ [] →
-    IsHistory s o (h ++ noted_by lane (record { did = Handle 0; lane = None; watch = None; root = None; region = None })
+    IsLawful s o (h ++ noted_by lane (record { did = Handle 0; lane = None; watch = None; root = None; region = None })
     ∷ [])
 first_handle s o h lane one bin empty =
     let n : Noted = noted_by lane (record { did = Handle 0; lane = None; watch = None; root = None; region = None }) in
-    subst (λ (y : Object × List Noted). IsHistory s y.0 (y.1 ++ n ∷ [])) (λ q. (sym bin q, sym empty q)) (record {
+    subst (λ (y : Object × List Noted). IsLawful s y.0 (y.1 ++ n ∷ [])) (λ q. (sym bin q, sym empty q)) (record {
       accepted =
           subst (λ (k : ℕ). IsTrue (is_some (after (bin_step 0 k) (new_bin 0 k) (Handle 0 ∷ [])))) (sym one) refl;
       right = ((refl, refl, refl), tt);

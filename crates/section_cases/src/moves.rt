@@ -6,7 +6,7 @@ ghost use Rattle.pool_law.specs.declared.note.Noted.{Noted};
 ghost use Rattle.pool_law.specs.declared.note.Object.TheVariants.{Root};
 ghost use Rattle.pool_law.specs.Homes.{IsObjectOf};
 ghost use Rattle.pool_law.specs.NotedHistories.{MayNote};
-ghost use Rattle.history_laws.specs.Histories.{IsHistory};
+ghost use Rattle.history_laws.specs.Histories.{IsLawful};
 ghost use Rattle.pool_table.specs.declared.views.Entry.TheVariants.{At};
 ghost use Rattle.pool_table.specs.Counts.{HasCount};
 ghost use Rattle.pool_table.specs.Hands.{MayEnter, PutsDown};
@@ -80,7 +80,7 @@ fn note_first<N: Named>(
     requires lane { noted.lane ≡ Some 0 }
     requires object { IsObjectOf LAYOUT.shape object }
     requires enters { (p : ℕ) → object ≡ Root p → MayEnter p (view_of seat.old) }
-    requires follows { IsHistory LAYOUT.shape object (noted ∷ []) }
+    requires follows { IsLawful LAYOUT.shape object (noted ∷ []) }
     requires stands { MayNote LAYOUT.shape (Some 0) object noted.did }
     requires hands { (h : List Noted) →
         PutsDown (entered (view_of seat.old) object h (length h)) noted.did }

@@ -12,7 +12,7 @@ use Rattle.pool_law.specs.Arenas.{Arena as ArenaLaw, new_arena, is_out_of}
 use Rattle.pool_law.specs.Histories.{after}
 use Rattle.pool_law.specs.NotedHistories.{noted_dids, IsRightAt, IsRightWatch}
 use Rattle.pool_law.specs.Naming.{noted_by}
-use Rattle.history_laws.specs.Histories.{IsHistory, IsArenaAfter}
+use Rattle.history_laws.specs.Histories.{IsLawful, IsArenaAfter}
 use Rattle.history_laws.specs.Measures.{measures_of}
 use Rattle.history_laws.proofs.Runs.{right_push}
 use Rattle.ground.specs.Ground.{Segment}
@@ -90,9 +90,9 @@ as_told s setting number h a at =
     chunks_is = cc at.measured
 
 pub arena_follows : (s : Shape) (setting : Setting) (number : ℕ) (h : List Noted) (n : Noted) (home : Home)
-    → IsHistory s (ArenaOf number) h → IsArena home →
+    → IsLawful s (ArenaOf number) h → IsArena home →
     HomeStands (measures_of s (ArenaOf number)) setting (h ++ n ∷ []) home → IsRightAt (ArenaOf number) h n
-    → IsHistory s (ArenaOf number) (h ++ n ∷ [])
+    → IsLawful s (ArenaOf number) (h ++ n ∷ [])
 arena_follows s setting number h n (Arena a) t is at right =
     record {
       accepted = subst (λ o. IsTrue (is_some o)) (sym (as_told s setting number (h ++ n ∷ []) a.value at)) refl;

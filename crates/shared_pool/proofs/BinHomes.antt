@@ -9,7 +9,7 @@ use Rattle.pool_law.specs.declared.note.Object.TheVariants.{Bin as BinOf}
 use Rattle.pool_law.specs.Caches.{new_bin, bin_step}
 use Rattle.pool_law.specs.Histories.{after}
 use Rattle.pool_law.specs.NotedHistories.{noted_dids, IsRightAt, IsRightWatch}
-use Rattle.history_laws.specs.Histories.{IsHistory, IsBinAfter}
+use Rattle.history_laws.specs.Histories.{IsLawful, IsBinAfter}
 use Rattle.history_laws.specs.Measures.{measures_of}
 use Rattle.history_laws.proofs.Runs.{right_push}
 use Rattle.handle_bin.specs.Bins.{BinValue, Makes, places_in}
@@ -44,9 +44,9 @@ is_bin setting h lane handles (Bin b) at = tt
 is_bin setting h lane handles (Root s) at = absurd (cc at.measured)
 
 pub bin_follows : (s : Shape) (setting : Setting) (lane : ℕ) (h : List Noted) (n : Noted) (home : Home)
-    → IsHistory s (BinOf lane) h → IsBin home →
+    → IsLawful s (BinOf lane) h → IsBin home →
     HomeStands (measures_of s (BinOf lane)) setting (h ++ n ∷ []) home → IsRightAt (BinOf lane) h n
-    → IsHistory s (BinOf lane) (h ++ n ∷ [])
+    → IsLawful s (BinOf lane) (h ++ n ∷ [])
 bin_follows s setting lane h n (Bin b) t is at right =
     record {
       accepted = subst (λ (m : ℕ × ℕ). IsTrue

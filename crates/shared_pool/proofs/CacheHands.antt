@@ -21,7 +21,7 @@ use Rattle.pool_law.specs.Places.{IsInPlace}
 use Rattle.pool_law.proofs.HistoryLemmas.{after-noted}
 use Rattle.pool_law.proofs.SameLemmas.{and-second}
 use Rattle.pool_law.proofs.PatternLemmas.{same_taking-refl}
-use Rattle.history_laws.specs.Histories.{IsHistory}
+use Rattle.history_laws.specs.Histories.{IsLawful}
 use Rattle.history_laws.specs.NoteCounts.{is_taking, uses_in, arena_out, arena_in, cache_out, cache_in, place_out, place_in, weight_or, ended_region}
 use Rattle.history_laws.proofs.Regions.{OfCache, cache_own}
 use Rattle.history_laws.proofs.CacheSteps.{IsCacheStep}
@@ -116,7 +116,7 @@ module _ {G : Ghosts Home Noted} (pool : SharedPool) (lane class : ℕ) (old new
 
   -- what was taken out of the cache is in the seat's hands
   held : (number turns : ℕ) (n : Noted) (x : Region) → TakesOut x.id n
-      → IsHistory s (CacheOf lane class) (got.history ++ n ∷ []) →
+      → IsLawful s (CacheOf lane class) (got.history ++ n ∷ []) →
       ((c y : CacheState) → IsCacheStep lane class c n.did y → c.regions ≡ x.id ∷ y.regions) → WasInPlace section.home x
       →
       seat_view last ≡ with_entry (view_of old) (At (CacheOf lane class) number n) turns →
@@ -154,7 +154,7 @@ module _ {G : Ghosts Home Noted} (pool : SharedPool) (lane class : ℕ) (old new
   shed_front n r did c y step = subst (λ (d : Did). IsCacheStep lane class c d y) did step
 
   pub popped_held : (number turns : ℕ) (n : Noted) (r : Option Region) → n.did ≡ hit r
-      → IsHistory s (CacheOf lane class) (got.history ++ n ∷ []) → IfSome r (λ x. WasInPlace section.home x) →
+      → IsLawful s (CacheOf lane class) (got.history ++ n ∷ []) → IfSome r (λ x. WasInPlace section.home x) →
       seat_view last ≡ with_entry (view_of old) (At (CacheOf lane class) number n) turns →
       IfSome r (λ x. HoldsRegion pool last x × (x.id.owner ≡ lane) × (x.id.class ≡ class))
   popped_held number turns n None did follows was seen = tt
@@ -162,7 +162,7 @@ module _ {G : Ghosts Home Noted} (pool : SharedPool) (lane class : ℕ) (old new
       held number turns n x (hit_takes x.id n did) follows (hit_front n x.id did) was seen
 
   pub shed_held : (number turns : ℕ) (n : Noted) (x : Region) → n.did ≡ Shed x.id
-      → IsHistory s (CacheOf lane class) (got.history ++ n ∷ []) → WasInPlace section.home x →
+      → IsLawful s (CacheOf lane class) (got.history ++ n ∷ []) → WasInPlace section.home x →
       seat_view last ≡ with_entry (view_of old) (At (CacheOf lane class) number n) turns →
       HoldsRegion pool last x × (x.id.owner ≡ lane) × (x.id.class ≡ class)
   shed_held number turns n x did follows was seen =
@@ -174,7 +174,7 @@ module _ (l : Layout) (lane class : ℕ) (v : SeatView) (h : List Noted) (home :
     (e : Enters HomeStands l (CacheOf lane class) v h home) (number : v.own.number ≡ Some lane) where
   -- a note that may come next, and gives a quota of no more regions than are in the cache, gives it of as many
   -- as the seat took and didn't give
-  bounded : (k : ℕ) (d : Did) (n : Noted) → n.did ≡ d → IsHistory l.shape (CacheOf lane class) (h ++ n ∷ [])
+  bounded : (k : ℕ) (d : Did) (n : Noted) → n.did ≡ d → IsLawful l.shape (CacheOf lane class) (h ++ n ∷ [])
       → ((c : CacheState) → IsTrue (is_some (lane_cache_step lane class c d)) → k ≤ length c.regions)
       → k + in_own (gives_of lane class) v ≤ in_own (takes_of class) v
   bounded k d n did follows most =
@@ -194,7 +194,7 @@ module _ (l : Layout) (lane class : ℕ) (v : SeatView) (h : List Noted) (home :
   sure true x is = refl
   sure false x is = absurd (cc is)
 
-  pub close_bound : (k : ℕ) (n : Noted) → n.did ≡ Close k → IsHistory l.shape (CacheOf lane class) (h ++ n ∷ [])
+  pub close_bound : (k : ℕ) (n : Noted) → n.did ≡ Close k → IsLawful l.shape (CacheOf lane class) (h ++ n ∷ [])
       → k + in_own (gives_of lane class) v ≤ in_own (takes_of class) v
   close_bound k n did follows = bounded k (Close k) n did follows most
     where
@@ -207,7 +207,7 @@ module _ (l : Layout) (lane class : ℕ) (v : SeatView) (h : List Noted) (home :
           (and-second (eqb c.quota 0) (not c.closed && eqb k (length c.regions)) both)) in
           omega (arith, all)
 
-  pub trim_bound : (k : ℕ) (n : Noted) → n.did ≡ Trim k → IsHistory l.shape (CacheOf lane class) (h ++ n ∷ [])
+  pub trim_bound : (k : ℕ) (n : Noted) → n.did ≡ Trim k → IsLawful l.shape (CacheOf lane class) (h ++ n ∷ [])
       → k + in_own (gives_of lane class) v ≤ in_own (takes_of class) v
   trim_bound k n did follows = bounded k (Trim k) n did follows most
     where

@@ -14,7 +14,7 @@ use Rattle.pool_law.specs.Histories.{cache_after}
 use Rattle.pool_law.specs.NotedHistories.{noted_dids, IsRightAt, IsRightWatch}
 use Rattle.pool_law.specs.Naming.{noted_by}
 use Rattle.pool_law.proofs.HistoryLemmas.{after-noted}
-use Rattle.history_laws.specs.Histories.{IsHistory, IsCacheAfter}
+use Rattle.history_laws.specs.Histories.{IsLawful, IsCacheAfter}
 use Rattle.history_laws.specs.Measures.{measures_of}
 use Rattle.history_laws.proofs.Runs.{right_push}
 use Rattle.history_laws.proofs.Told.{cache_there}
@@ -62,7 +62,7 @@ is_cache setting h lane class (Root s) at = absurd (cc at.measured)
 pub cache_has : (s : Shape) (setting : Setting) (lane class : ℕ) (h : List Noted) (home : Home) (P : Queue → Type 0)
     → HomeStands (measures_of s (CacheOf lane class)) setting h home → IsCache home →
     ((q : Queue) (c : CacheState) → IsCacheAfter lane class h c → c ≡ cache_of q → P q)
-    → IsHistory s (CacheOf lane class) h → IfCache home P
+    → IsLawful s (CacheOf lane class) h → IfCache home P
 cache_has s setting lane class h (Cache q) P at is so accepted =
     let c = cache_there s lane class h accepted in
     so q.value c.0 c.1 (stands_as_told setting.grounds lane class h q.value c.0 at.stands
@@ -97,9 +97,9 @@ step_of_lane lane class h n x accepted own told = go (cache_after lane class (no
         ap is_some by_lane
 
 pub cache_follows : (s : Shape) (setting : Setting) (lane class : ℕ) (h : List Noted) (n : Noted) (home : Home)
-    → IsHistory s (CacheOf lane class) h → IsCache home → is_own lane class n.did ≡ true →
+    → IsLawful s (CacheOf lane class) h → IsCache home → is_own lane class n.did ≡ true →
     HomeStands (measures_of s (CacheOf lane class)) setting (h ++ n ∷ []) home → IsRightAt (CacheOf lane class) h n
-    → IsHistory s (CacheOf lane class) (h ++ n ∷ [])
+    → IsLawful s (CacheOf lane class) (h ++ n ∷ [])
 cache_follows s setting lane class h n (Cache q) t is own at right =
     record {
       accepted =

@@ -17,7 +17,7 @@ use Rattle.pool_law.specs.declared.note.Object.TheVariants.{Arena, Cache, Bin, M
 use Rattle.pool_law.specs.Homes.{home_of, IsObjectOf}
 use Rattle.pool_law.specs.Histories.{IsAccepted}
 use Rattle.pool_law.specs.NotedHistories.{noted_dids}
-use Rattle.pool_law.specs.Logs.{History, dids, of_lane, own, IsHistory as IsLawful, history_of, has_history, note_stands}
+use Rattle.pool_law.specs.Logs.{History, dids, of_lane, own, IsHistory, history_of, has_history, note_stands}
 use Rattle.pool_law.specs.Mails.{MailsHold}
 use Rattle.pool_law.specs.Legal.{HistoriesHold}
 use Rattle.pool_law.proofs.HistoryLemmas.{history_of-is}
@@ -194,7 +194,7 @@ module _ {H : Type 0} (stands : List ℕ → Setting → List Noted → H → Ty
     all_laned = laned history (λ k n is. let t = lane_there k n is in (t.0, t.1))
 
     -- the logs have this history
-    pub whole_at : IsLawful o (logs_in (parts_of v)) (lawful history)
+    pub whole_at : IsHistory o (logs_in (parts_of v)) (lawful history)
     whole_at lane = ⊎_elim
         (λ (t : (p : Part) × (slice_get (parts_of v) lane ≡ Some p)).
         ap (λ (x : List Note). own o x) (log_at (parts_of v) lane t.0 t.1)
@@ -217,7 +217,7 @@ module _ {H : Type 0} (stands : List ℕ → Setting → List Noted → H → Ty
 
   -- an object that isn't one of the shape has none
   whole_none : (o : Object) → IsTrue (has_history o) → (IsObjectOf l.shape o → ⊥)
-      → IsLawful o (logs_in (parts_of v)) []
+      → IsHistory o (logs_in (parts_of v)) []
   whole_none o has none lane = ⊎_elim
       (λ (t : (p : Part) × (slice_get (parts_of v) lane ≡ Some p)). ap (λ (x : List Note). own o x)
       (log_at (parts_of v) lane t.0 t.1) ∙ own_none l.shape t.0.number o has none t.0.notes (stands_at lane t.0 t.1))
@@ -227,9 +227,9 @@ module _ {H : Type 0} (stands : List ℕ → Setting → List Noted → H → Ty
   pub histories_hold : MailsHold (logs_in (parts_of v)) → HistoriesHold l.shape (logs_in (parts_of v))
   histories_hold mails = record {
     whole = λ o has. ⊎_elim
-        (λ (fits : IsObjectOf l.shape o). subst (IsLawful o (logs_in (parts_of v))) (sym (history_at o fits))
+        (λ (fits : IsObjectOf l.shape o). subst (IsHistory o (logs_in (parts_of v))) (sym (history_at o fits))
         (whole_at o fits))
-        (λ (none : IsObjectOf l.shape o → ⊥). subst (IsLawful o (logs_in (parts_of v)))
+        (λ (none : IsObjectOf l.shape o → ⊥). subst (IsHistory o (logs_in (parts_of v)))
         (sym (history_of-is o (logs_in (parts_of v)) [] (whole_none o has none))) (whole_none o has none))
         (object_or l.shape o);
     accepted = λ o has. ⊎_elim

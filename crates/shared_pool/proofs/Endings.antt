@@ -9,7 +9,7 @@ use Rattle.pool_law.specs.declared.note.Noted.{Noted}
 use Rattle.pool_law.specs.NotedHistories.{IsRightWatch}
 use Rattle.pool_law.specs.declared.note.Object.{Object}
 use Rattle.pool_law.specs.Naming.{noted_by}
-use Rattle.history_laws.specs.Histories.{IsHistory}
+use Rattle.history_laws.specs.Histories.{IsLawful}
 use Rattle.history_laws.specs.Measures.{measures_of}
 use Rattle.pool_table.specs.declared.views.Entry.TheVariants.{At}
 use Rattle.pool_table.specs.declared.views.Layout.{Layout}
@@ -44,7 +44,7 @@ module _ {G : Ghosts Home Noted} (l : Layout) (o : Object) (old new : TableSeat 
     pub record IsNext (after : Section Home) (n : Noted) : Type 0 where
       pub same_object : after.object ≡ section.object
       pub same_slot : after.slot ≡ section.slot
-      pub follows : IsHistory l.shape o (longer n)
+      pub follows : IsLawful l.shape o (longer n)
       pub stands : HomeStands (measures_of l.shape o) setting (longer n) after.home
 
     -- the section may end with a note that follows
@@ -56,7 +56,7 @@ module _ {G : Ghosts Home Noted} (l : Layout) (o : Object) (old new : TableSeat 
               subst (λ (x : Object × HomeSlot). IsInside l.shape new.seat.me x.0 x.1 got.history)
               (λ i. (sym object_is i, sym next.same_slot i)) got.inside;
           follows =
-              subst (λ (x : Object × Option ℕ). IsHistory l.shape x.0 (got.history ++ noted_by x.1 n ∷ []))
+              subst (λ (x : Object × Option ℕ). IsLawful l.shape x.0 (got.history ++ noted_by x.1 n ∷ []))
               (λ i. (sym object_is i, sym number_is i)) next.follows;
           stands_for = record {
             setting = setting;
@@ -89,7 +89,7 @@ made l o old new section got setting known pool last after number n layout next 
       history = got.history;
       number_is = number_is;
       accepted =
-          subst (λ (y : Layout). IsHistory y.shape o (longer l o old.seat new section got setting known n)) (sym layout)
+          subst (λ (y : Layout). IsLawful y.shape o (longer l o old.seat new section got setting known n)) (sym layout)
           next.follows;
       above = subst (λ (k : ℕ). IsAbove o k (view_of old.seat).own.notes) (sym number_is) got.learned.seen;
       seat =

@@ -20,7 +20,7 @@ use Rattle.pool_law.specs.Roots.{RootPlace, Present, new_place, may_be_born, bor
 use Rattle.pool_law.specs.Same.{same_root, same_bytes}
 use Rattle.pool_law.proofs.SameLemmas.{and-first, and-second, same_bytes-is}
 use Rattle.pool_law.proofs.PatternLemmas.{same_root-refl}
-use Rattle.history_laws.specs.Histories.{IsHistory, IsPlaceAfter}
+use Rattle.history_laws.specs.Histories.{IsLawful, IsPlaceAfter}
 use Rattle.history_laws.specs.NoteCounts.{did_post_of, view_of_root}
 use Rattle.history_laws.proofs.BinSteps.{so}
 use Rattle.history_laws.proofs.Names.{same_root-or}
@@ -126,7 +126,7 @@ module _ {G : Ghosts Home Noted} (l : Layout) (p : ℕ) (old new : TableSeat Hom
     pub next : RootPlace
     pub step : place_step p place n.did ≡ Some next
 
-  found : (n : Noted) → IsHistory l.shape (RootOf p) (got.history ++ n ∷ []) → Found n
+  found : (n : Noted) → IsLawful l.shape (RootOf p) (got.history ++ n ∷ []) → Found n
   found n accepted =
       let y = place_there l.shape p (got.history ++ n ∷ []) accepted in
       let k = last_note (place_step p) got.history n new_place y.0 y.1 in
@@ -134,7 +134,7 @@ module _ {G : Ghosts Home Noted} (l : Layout) (p : ℕ) (old new : TableSeat Hom
 
   -- a root that may be born is named by none of the seat's notes
   pub unnamed_yet : (lane : Option ℕ) (root : RootId) (region : RegionId) (watch : Option Watch) → root.place ≡ p
-      → IsHistory l.shape (RootOf p) (got.history ++ noted_by lane (birth root region watch) ∷ [])
+      → IsLawful l.shape (RootOf p) (got.history ++ noted_by lane (birth root region watch) ∷ [])
       → sum_by (names root) (view_of old).own.notes ≡ 0
   unnamed_yet lane root region watch here accepted =
       let f = found (noted_by lane (birth root region watch)) accepted in
@@ -157,7 +157,7 @@ module _ {G : Ghosts Home Noted} (l : Layout) (root : RootId) (old new : TableSe
   -- who is alone with the root gets what its own notes laid
   pub lone_get : (lane : ℕ) (offset : ℕ) (bytes : List ℕ) → HasCount root (view_of old)
       → (view_of old).own.number ≡ Some lane
-      → IsHistory l.shape (RootOf root.place)
+      → IsLawful l.shape (RootOf root.place)
       (got.history ++ noted_by (view_of old).own.number (access root (Get offset bytes)) ∷ [])
       → IsLone root (view_of old) → bytes ≡ bytes_at (own_bytes root (view_of old)) offset (length bytes)
   lone_get lane offset bytes has number accepted lone =

@@ -15,7 +15,7 @@ use Rattle.pool_law.specs.Limits.{geometry_of}
 use Rattle.pool_law.specs.Naming.{noted_by}
 use Rattle.pool_law.specs.Places.{IsInPlace}
 use Rattle.pool_law.specs.Roots.{RootPlace}
-use Rattle.history_laws.specs.Histories.{IsHistory, IsPlaceAfter}
+use Rattle.history_laws.specs.Histories.{IsLawful, IsPlaceAfter}
 use Rattle.history_laws.specs.Measures.{measures_of}
 use Rattle.handle_bin.specs.Bins.{HandleValue}
 use Rattle.pool_table.specs.declared.views.Entry.TheVariants.{At}
@@ -124,7 +124,7 @@ born_noted pool old last new p number root result region watch m place same has 
       history = m.history;
       number_is = m.number_is;
       accepted =
-          subst (λ (x : ℕ). IsHistory pool.table.layout.shape (RootOf x) (m.history ++ n ∷ [])) (sym place) m.accepted;
+          subst (λ (x : ℕ). IsLawful pool.table.layout.shape (RootOf x) (m.history ++ n ∷ [])) (sym place) m.accepted;
       above = subst (λ (x : ℕ). IsAbove (RootOf x) number v.own.notes) (sym place) m.above;
       seat =
           subst (λ (x : ℕ). HasView new (with_ref (with_entry v (At (RootOf x) number n) (v.turns - 1)) root Born

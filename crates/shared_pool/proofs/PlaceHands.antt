@@ -14,7 +14,7 @@ use Rattle.pool_law.specs.declared.note.Object.TheVariants.{Bin as BinOf}
 use Rattle.pool_law.specs.Caches.{new_bin, bin_step, has_place, front_taken}
 use Rattle.pool_law.proofs.HistoryLemmas.{after-noted}
 use Rattle.pool_law.proofs.SameLemmas.{and-first, and-second}
-use Rattle.history_laws.specs.Histories.{IsHistory, IsBinAfter}
+use Rattle.history_laws.specs.Histories.{IsLawful, IsBinAfter}
 use Rattle.history_laws.specs.NoteCounts.{did_handle, did_home, did_birth}
 use Rattle.history_laws.proofs.Told.{bin_there}
 use Rattle.handle_bin.specs.Bins.{HandleValue, IsHomeless, is_of, places_in}
@@ -126,7 +126,7 @@ module _ (l : Layout) (lane : ℕ) (v : SeatView) (h : List Noted) (home : Home)
       one false is sum = absurd (cc is)
 
   -- a place that may be popped isn't in hand
-  pub popped_away : (n : Noted) (p : ℕ) → n.did ≡ Handle p → IsHistory l.shape (BinOf lane) (h ++ n ∷ []) → InHand p v
+  pub popped_away : (n : Noted) (p : ℕ) → n.did ≡ Handle p → IsLawful l.shape (BinOf lane) (h ++ n ∷ []) → InHand p v
       → ⊥
   popped_away n p did follows has =
       let m = bin_there l.shape lane h e.accepted in
@@ -164,7 +164,7 @@ module _ {G : Ghosts Home Noted} (pool : SharedPool) (lane : ℕ) (old new : Tab
   s = pool.table.layout.shape
 
   pub popped_held : (number turns : ℕ) (n : Noted) (r : Option HandleValue) → n.did ≡ popped r → lane < s.lanes
-      → IsHistory s (BinOf lane) (got.history ++ n ∷ []) → IsBin section.home →
+      → IsLawful s (BinOf lane) (got.history ++ n ∷ []) → IsBin section.home →
       IfSome r (λ h. IfBin section.home (λ b. IsTrue (is_of b.lane b.handles h)))
       → IfBin section.home (λ b. 0 < b.handles) →
       seat_view last ≡ with_entry (view_of old) (At (BinOf lane) number n) turns →

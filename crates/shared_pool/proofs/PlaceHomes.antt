@@ -19,7 +19,7 @@ use Rattle.pool_law.specs.Naming.{noted_by}
 use Rattle.pool_law.specs.NotedHistories.{noted_dids, IsRightAt, IsRightWatch}
 use Rattle.pool_law.proofs.HistoryLemmas.{after-noted}
 use Rattle.pool_law.proofs.PatternLemmas.{same_root-refl}
-use Rattle.history_laws.specs.Histories.{IsHistory, root_after}
+use Rattle.history_laws.specs.Histories.{IsLawful, root_after}
 use Rattle.history_laws.specs.Measures.{measures_of}
 use Rattle.history_laws.proofs.Runs.{right_push}
 use Rattle.leak_records.specs.Records.{Tracked, HasRecords, with_access, with_last, is_keeping}
@@ -186,9 +186,9 @@ home_more measures setting h n access (Cache s) new po pn a is at = absurd po
 home_more measures setting h n access (Bin s) new po pn a is at = absurd po
 
 pub place_follows : (s : Shape) (setting : Setting) (p : ℕ) (h : List Noted) (n : Noted) (home : Home)
-    → IsHistory s (RootOf p) h → IsPlace home →
+    → IsLawful s (RootOf p) h → IsPlace home →
     HomeStands (measures_of s (RootOf p)) setting (h ++ n ∷ []) home → IsRightAt (RootOf p) h n
-    → IsHistory s (RootOf p) (h ++ n ∷ [])
+    → IsLawful s (RootOf p) (h ++ n ∷ [])
 place_follows s setting p h n (Root y) t is at right =
     record {
       accepted = subst (λ (o : Option RootPlace). IsTrue (is_some o))

@@ -12,7 +12,7 @@ use Rattle.pool_law.specs.Histories.{place_after}
 use Rattle.pool_law.specs.Naming.{noted_by}
 use Rattle.pool_law.specs.NotedHistories.{noted_dids, IsRightAt}
 use Rattle.pool_law.proofs.HistoryLemmas.{after-noted}
-use Rattle.history_laws.specs.Histories.{IsHistory}
+use Rattle.history_laws.specs.Histories.{IsLawful}
 use Rattle.history_laws.specs.Measures.{measures_of}
 use Rattle.history_laws.proofs.Runs.{right_push}
 use Rattle.pool_table.specs.declared.views.Entry.TheVariants.{At}
@@ -37,9 +37,9 @@ use Rattle.shared_pool.proofs.PlaceHomes.{counts_root, is_place, place_at}
 
 -- a get of what is there follows
 get_follows : (s : Shape) (setting : Setting) (p : ℕ) (h : List Noted) (n : Noted) (home : Home) (offset : ℕ)
-    (bytes : List ℕ) → n.did ≡ Did.Get offset bytes → IsHistory s (RootOf p) h → IsPlace home
+    (bytes : List ℕ) → n.did ≡ Did.Get offset bytes → IsLawful s (RootOf p) h → IsPlace home
     → HomeStands (measures_of s (RootOf p)) setting h home → IfPlace home (AreThere offset bytes)
-    → IsRightAt (RootOf p) h n → IsHistory s (RootOf p) (h ++ n ∷ [])
+    → IsRightAt (RootOf p) h n → IsLawful s (RootOf p) (h ++ n ∷ [])
 get_follows s setting p h n (Root y) offset bytes did t is at there right =
     let told : place_after p (noted_dids (h ++ n ∷ [])) ≡ Some (law_place y.value) =
     after-noted (place_step p) new_place h n
@@ -72,13 +72,13 @@ set_over l root old new last section after got setting known pool number offset 
     let stands = stood l o old.seat new section got setting known in
     let is = is_place setting got.history root.place l.shape.handles l.shape.lanes l.shape.order l.shape.page
     section.home stands in
-    let follows : IsHistory l.shape o (got.history ++ g ∷ []) =
+    let follows : IsLawful l.shape o (got.history ++ g ∷ []) =
     get_follows l.shape setting root.place got.history g section.home offset before refl got.learned.accepted is stands
     there (sym (counts_root l root old.seat new section got counts), refl, refl) in
     record {
       noted = made l o old new section got setting known pool last after number n layout next counted has;
       there =
-          subst (λ (x : Layout × List Noted). IsHistory x.0.shape o (x.1 ++ g ∷ []))
+          subst (λ (x : Layout × List Noted). IsLawful x.0.shape o (x.1 ++ g ∷ []))
           (λ i. (
             sym layout i,
             sym (made_after l o old new section got setting known pool last after number n layout next counted has) i,

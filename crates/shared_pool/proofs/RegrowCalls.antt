@@ -25,7 +25,7 @@ use Rattle.pool_law.specs.Places.{IsInPlace}
 use Rattle.pool_law.specs.Same.{same_root}
 use Rattle.pool_law.specs.Roots.{Present, RootPlace as LawPlace}
 use Rattle.pool_law.proofs.PatternLemmas.{same_root-refl, same_taking-refl}
-use Rattle.history_laws.specs.Histories.{IsHistory, root_after}
+use Rattle.history_laws.specs.Histories.{IsLawful, root_after}
 use Rattle.history_laws.specs.Measures.{measures_of}
 use Rattle.pool_table.specs.declared.views.Entry.TheVariants.{At}
 use Rattle.pool_table.specs.declared.views.Layout.{Layout}
@@ -387,7 +387,7 @@ module _ {G : Ghosts Home Noted} (l : Layout) (root : RootId) (old new : TableSe
           → HasRegion (back_of g).id (then_seen number turns)
       grown_hand hand number turns = by g grew grown_next.follows
         where
-          by : (g : Grown) → Grows g → IsHistory l.shape (RootOf root.place) (got.history ++ note g ∷ [])
+          by : (g : Grown) → Grows g → IsLawful l.shape (RootOf root.place) (got.history ++ note g ∷ [])
               → HasRegion (back_of g).id (with_entry (view_of old) (At (RootOf root.place) number (note g)) turns)
           by (grown.Enough capacity region) t follows =
               subst (λ (x : Region). HasRegion x.id (with_entry (view_of old)

@@ -9,7 +9,7 @@ use Rattle.pool_law.specs.declared.note.RefDid.{RefDid}
 use Rattle.pool_law.specs.declared.report.Watch.{Watch}
 use Rattle.pool_law.specs.Naming.{noted_by}
 use Rattle.pool_law.specs.Roots.{bytes_at}
-use Rattle.history_laws.specs.Histories.{IsHistory}
+use Rattle.history_laws.specs.Histories.{IsLawful}
 use Rattle.pool_table.specs.declared.roots.EndToken.{EndToken}
 use Rattle.shared_pool.specs.declared.seat.PoolSeat.{PoolSeat}
 use Rattle.pool_table.specs.declared.views.Entry.TheVariants.{At}
@@ -52,7 +52,7 @@ pub record IsNotedWith
     (step : RefDid) (moves : ℕ) : Type 0 where
   pub history : List Noted
   pub number_is : number ≡ length history + 1
-  pub accepted : IsHistory pool.table.layout.shape (Object.Root root.place)
+  pub accepted : IsLawful pool.table.layout.shape (Object.Root root.place)
       (history ++ noted_by (view_of old).own.number n ∷ [])
   pub above : IsAbove (Object.Root root.place) number (view_of old).own.notes
   pub seat : let v = view_of old in
@@ -67,7 +67,7 @@ pub record IsSetOver
   pub noted :
       IsNoted pool old new (Object.Root root.place) number (access root (Did.Set offset bytes))
   pub there : let got = access root (Did.Get offset before) in
-      IsHistory pool.table.layout.shape (Object.Root root.place)
+      IsLawful pool.table.layout.shape (Object.Root root.place)
       (noted.history ++ noted_by (view_of old).own.number got ∷ [])
   pub lone : IsLone root (view_of old) →
       before ≡ bytes_at (own_bytes root (view_of old)) offset (length before)

@@ -5,7 +5,7 @@ use Rattle.pool_law.specs.declared.note.Noted.{Noted}
 use Rattle.pool_law.specs.declared.note.Object.{Object}
 use Rattle.pool_law.specs.declared.note.Held.{Held}
 use Rattle.pool_law.specs.Naming.{noted_by}
-use Rattle.history_laws.specs.Histories.{IsHistory}
+use Rattle.history_laws.specs.Histories.{IsLawful}
 use Rattle.pool_table.specs.declared.views.Entry.TheVariants.{At}
 use Rattle.shared_pool.specs.declared.seat.PoolSeat.{PoolSeat}
 use Rattle.pool_table.specs.Counts.{CountsOne}
@@ -41,7 +41,7 @@ pub record IsNoted
   pub history : List Noted
   pub number_is : number ≡ length history + 1
   pub accepted :
-      IsHistory pool.table.layout.shape o (history ++ noted_by (view_of old).own.number n ∷ [])
+      IsLawful pool.table.layout.shape o (history ++ noted_by (view_of old).own.number n ∷ [])
   pub above : IsAbove o number (view_of old).own.notes
   pub seat : let v = view_of old in
       HasView new (with_entry v (At o number (noted_by v.own.number n)) (v.turns - 1))

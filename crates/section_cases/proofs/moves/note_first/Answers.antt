@@ -5,7 +5,7 @@ use Rattle.pool_law.specs.declared.run.Shape.{Shape}
 use Rattle.pool_law.specs.declared.note.Noted.{Noted}
 use Rattle.pool_law.specs.declared.note.Object.{Object}
 use Rattle.pool_law.specs.Naming.{noted_by}
-use Rattle.history_laws.specs.Histories.{IsHistory}
+use Rattle.history_laws.specs.Histories.{IsLawful}
 use Rattle.pool_table.specs.declared.table.Section.{Section}
 use Rattle.pool_table.specs.declared.table.HomeSlot.{HomeSlot}
 use Rattle.pool_table.specs.declared.views.Inside.{Inside}
@@ -41,7 +41,7 @@ done-requires-clause-section g c =
           subst (λ (y : Object × HomeSlot). IsInside shape c.claim.new.seat.seat.me y.0 y.1 h)
           (λ q. (sym object q, sym slot q)) got.inside;
       follows =
-          subst (λ (y : Shape × (Object × (List Noted × Noted))). IsHistory y.0 y.1.0 (y.1.1.0 ++ y.1.1.1 ∷ []))
+          subst (λ (y : Shape × (Object × (List Noted × Noted))). IsLawful y.0 y.1.0 (y.1.1.0 ++ y.1.1.1 ∷ []))
           (λ q. (
             sym (ap (λ l. l.shape) c.requires.layout) q,
             (
