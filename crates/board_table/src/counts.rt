@@ -10,7 +10,7 @@ ghost use Rattle.board_table.specs.Steps.{releases};
 ghost use Rattle.board_table.specs.Seats.{opening_of, view_of, Counts, IsSeatOf, IsOutside, HasView, SameSeat};
 ghost use Rattle.board_table.specs.Releases.{IsReleased};
 
-use crate::rule::{Homed, Releases, Retains, Stepping};
+use crate::rule::{Homed, ReleaseStep, RetainStep, Stepping};
 use crate::table::{APART, BoardSeat, BoardTable};
 use crate::views::BoardView;
 use atomic_table::Seat;
@@ -42,7 +42,7 @@ impl<T, H: Homed<T>> BoardTable<H, T> {
         ensures told { seat.new.me ≡ (retained k seat.old.me.0, []) }
     {
         let word = APART * k as usize + 1;
-        self.table.shared.fetch_add::<Retains<C>>(seat, word, 1);
+        self.table.shared.fetch_add::<RetainStep<C>>(seat, word, 1);
     }
 
     // Its answer is the word that it found.
@@ -60,7 +60,7 @@ impl<T, H: Homed<T>> BoardTable<H, T> {
             releases C.holds k s seat.old.me result seat.new.me }
     {
         let word = APART * k as usize + 1;
-        self.table.shared.fetch_sub::<Releases<C>>(seat, word, 1)
+        self.table.shared.fetch_sub::<ReleaseStep<C>>(seat, word, 1)
     }
 
     /// One count more of a composite that the seat counts, for one of its moves.

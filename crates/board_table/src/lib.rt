@@ -18,6 +18,8 @@ mod views;
 
 pub use counts::{EndMark, Let};
 pub use naming::{Name, Naming};
-pub use rule::{Claims, Dones, Hands, Homed, Joins, Releases, Retains, Rule, Takes};
+pub use rule::{
+    ClaimStep, DoneStep, HandStep, Homed, JoinStep, ReleaseStep, RetainStep, Rule, TakeStep,
+};
 pub use table::{BoardSeat, BoardTable, Section};
 pub use views::{BoardView, Inside, Opening, Stake};

@@ -27,17 +27,17 @@ fn opening_words(alloc: Global, composites: u32) -> Result<Vec<u64>, AllocError>
 
 // All memory that a table takes beside its slots.
 #[derive(Drop)]
-struct Room<T> {
+struct Memory<T> {
     words: Vec<u64>,
     name: Name<T>,
 }
 
-fn take_room<T, N: Naming<T>>(alloc: Global, composites: u32) -> Result<Room<T>, AllocError>
+fn take_memory<T, N: Naming<T>>(alloc: Global, composites: u32) -> Result<Memory<T>, AllocError>
     requires { composites ≤ 16 }
-    ensures words { IfOk result (λ room. AreOpening composites room.words.items) }
-    ensures name { IfOk result (λ room. named room.name ≡ N.value) }
+    ensures words { IfOk result (λ m. AreOpening composites m.words.items) }
+    ensures name { IfOk result (λ m. named m.name ≡ N.value) }
 {
-    Ok(Room {
+    Ok(Memory {
         words: opening_words(alloc, composites)?,
         name: Name::new::<N>(alloc)?,
     })
@@ -66,10 +66,10 @@ impl<T, H: Homed<T>> BoardTable<H, T> {
         ensures err { IfErr result (λ s. s.items ≡ slots.items) }
     {
         let composites = slots.len() as u32;
-        let Ok(room) = take_room::<T, N>(alloc, composites) else {
+        let Ok(memory) = take_memory::<T, N>(alloc, composites) else {
             return Err(slots);
         };
-        let Room { words, name } = room;
+        let Memory { words, name } = memory;
         let opening = Opening {
             composites,
             moves,

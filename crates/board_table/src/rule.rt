@@ -49,47 +49,47 @@ impl<H> Stepping<H> for Brand {
     ghost fits = { λ x turns. ⊤ };
 }
 
-pub struct Claims<C> {
+pub struct ClaimStep<C> {
     of: PhantomData<C>,
 }
 
-impl<H, C: Stepping<H>> Play<Option<H>, BoardView> for Claims<C> {
+impl<H, C: Stepping<H>> Play<Option<H>, BoardView> for ClaimStep<C> {
     ghost use Rattle.board_table.specs.Steps.{claims};
 
     ghost then = { claims C.holds C.fits C.composite };
 }
 
-pub struct Dones;
+pub struct DoneStep;
 
-impl<H> Play<Option<H>, BoardView> for Dones {
+impl<H> Play<Option<H>, BoardView> for DoneStep {
     ghost use Rattle.board_table.specs.Steps.{dones};
 
     ghost then = { dones };
 }
 
-pub struct Takes;
+pub struct TakeStep;
 
-impl<H> Play<Option<H>, BoardView> for Takes {
+impl<H> Play<Option<H>, BoardView> for TakeStep {
     ghost use Rattle.board_table.specs.Steps.{takes};
 
     ghost then = { takes };
 }
 
-pub struct Retains<C> {
+pub struct RetainStep<C> {
     of: PhantomData<C>,
 }
 
-impl<H, C: Stepping<H>> Play<Option<H>, BoardView> for Retains<C> {
+impl<H, C: Stepping<H>> Play<Option<H>, BoardView> for RetainStep<C> {
     ghost use Rattle.board_table.specs.Steps.{retains};
 
     ghost then = { retains C.composite };
 }
 
-pub struct Releases<C> {
+pub struct ReleaseStep<C> {
     of: PhantomData<C>,
 }
 
-impl<H, C: Stepping<H>> Play<Option<H>, BoardView> for Releases<C> {
+impl<H, C: Stepping<H>> Play<Option<H>, BoardView> for ReleaseStep<C> {
     ghost use Rattle.board_table.specs.Steps.{releases};
 
     ghost then = { releases C.holds C.composite };
@@ -110,11 +110,11 @@ impl Handing for Brand {
     ghost turns = { 0 };
 }
 
-pub struct Hands<C> {
+pub struct HandStep<C> {
     of: PhantomData<C>,
 }
 
-impl<C: Handing> Split<BoardView> for Hands<C> {
+impl<C: Handing> Split<BoardView> for HandStep<C> {
     ghost use Rattle.board_table.specs.Views.{hand_left, handed};
 
     ghost left = { hand_left C.composite C.turns };
@@ -122,9 +122,9 @@ impl<C: Handing> Split<BoardView> for Hands<C> {
     ghost right = { handed C.composite C.turns };
 }
 
-pub struct Joins;
+pub struct JoinStep;
 
-impl Join<BoardView> for Joins {
+impl Join<BoardView> for JoinStep {
     ghost use Rattle.board_table.specs.Views.{joined, blank};
 
     ghost both = { joined };

@@ -5,7 +5,7 @@ ghost use Rattle.std.specs.Prelude.{◌≡◌, ◌≤◌, None, []};
 ghost use Rattle.board_table.specs.Views.{hand_left, handed, joined};
 ghost use Rattle.board_table.specs.Seats.{view_of, Counts, IsSeatOf, IsOutside, HasView, SameSeat};
 
-use crate::rule::{Handing, Hands, Homed, Joins};
+use crate::rule::{HandStep, Handing, Homed, JoinStep};
 use crate::table::{BoardSeat, BoardTable};
 use crate::views::BoardView;
 use atomic_table::Seat;
@@ -30,7 +30,7 @@ impl<T, H: Homed<T>> BoardTable<H, T> {
         ensures made { result.table_id ≡ seat.old.table_id }
         ensures handed { result.me ≡ (handed k turns seat.old.me.0, []) }
     {
-        self.table.shared.split_seat::<Hands<C>>(seat)
+        self.table.shared.split_seat::<HandStep<C>>(seat)
     }
 
     /// A new seat, which takes over one of the seat's counts of a composite and so many of its turns. It
@@ -60,6 +60,8 @@ impl<T, H: Homed<T>> BoardTable<H, T> {
         ensures joined { HasView seat.new (joined (view_of seat.old) (view_of other)) }
     {
         let BoardSeat { seat: other } = other;
-        self.table.shared.join_seat::<Joins>(&mut seat.seat, other);
+        self.table
+            .shared
+            .join_seat::<JoinStep>(&mut seat.seat, other);
     }
 }

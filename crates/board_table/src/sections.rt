@@ -13,7 +13,7 @@ ghost use Rattle.board_table.specs.Seats.{opening_of, view_of, HasMark, HasView,
 ghost use Rattle.board_table.specs.Sections.{FoundHeld, GotSection, MayEnd, EndsAt, StandsFor};
 
 use crate::counts::EndMark;
-use crate::rule::{Claims, Dones, Homed, Stepping, Takes};
+use crate::rule::{ClaimStep, DoneStep, Homed, Stepping, TakeStep};
 use crate::table::{APART, BoardSeat, BoardTable, Section};
 use crate::views::BoardView;
 use atomic_table::Seat;
@@ -38,7 +38,7 @@ impl<T, H: Homed<T>> BoardTable<H, T> {
             claims C.holds C.fits k s seat.old.me result seat.new.me }
     {
         let word = APART * k as usize;
-        self.table.shared.fetch_or::<Claims<C>>(seat, word, 1)
+        self.table.shared.fetch_or::<ClaimStep<C>>(seat, word, 1)
     }
 
     /// Enters the section of a composite that the seat counts or has the end mark of. Where another
@@ -81,7 +81,7 @@ impl<T, H: Homed<T>> BoardTable<H, T> {
         let empty = self.table.shared.exchange(seat, k as usize, Some(home));
         let None = empty else { unreachable!() };
         let word = APART * k as usize;
-        self.table.shared.fetch_add::<Dones>(seat, word, 1)
+        self.table.shared.fetch_add::<DoneStep>(seat, word, 1)
     }
 
     // The same, with nothing in the slot.
@@ -96,7 +96,7 @@ impl<T, H: Homed<T>> BoardTable<H, T> {
         ensures view { seat.new.me ≡ (took k seat.old.me.0, []) }
     {
         let word = APART * k as usize;
-        self.table.shared.fetch_add::<Takes>(seat, word, 1);
+        self.table.shared.fetch_add::<TakeStep>(seat, word, 1);
     }
 
     /// Ends a section, with the home value at home again. The answer is the section's number, from 1.

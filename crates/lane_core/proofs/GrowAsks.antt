@@ -28,7 +28,7 @@ use Rattle.shared_pool.specs.SeatLanes.{lane_of}
 use Rattle.shared_pool.specs.SeatViews.{view_of, SameSeat}
 use Rattle.shared_pool.specs.Seats.{IsPoolSeat, IsNoted, FoundBusy}
 use Rattle.seat_work.specs.Hands.{empty_hand}
-use Rattle.lane_core.specs.declared.growing.Growing.TheVariants.{Room, Cache, Arena, Grow}
+use Rattle.lane_core.specs.declared.growing.Growing.TheVariants.{Ask, Cache, Arena, Grow}
 use Rattle.lane_core.specs.declared.growing.Regrown.TheVariants.{Has, Full}
 use Rattle.lane_core.specs.declared.stage_step.StageStep.TheVariants.{More, Done}
 use Rattle.lane_core.specs.Growings.{MayGrow, HasGrown, left_of, left_after, obtaining}
@@ -57,7 +57,7 @@ module _ (pool : SharedPool) (old new : PoolSeat) (root : RootId) (size class : 
 
   -- ---- The root is asked.
 
-  module _ (may : MayGrow pool old root size class Room) (class_is : class_of (geometry_of shape) size ≡ Some class)
+  module _ (may : MayGrow pool old root size class Ask) (class_is : class_of (geometry_of shape) size ≡ Some class)
       (number : ℕ) (note : Note) (log later : Vec Note) (wrote : HasWritten log later (note ∷ [])) where
     module _ (did : Did) where
       abbrev asked : Entry
@@ -74,28 +74,28 @@ module _ (pool : SharedPool) (old new : PoolSeat) (root : RootId) (size class : 
         made.0 made.1
 
     pub room_enough : (k : ℕ) → AsksFor (Did.Room size k) → size ≤ k → KnowsOf pool new root k
-        → HasGrown pool old new log later root size class Room (Done (Has k))
+        → HasGrown pool old new log later root size class Ask (Done (Has k))
     room_enough k made le knows =
         let e = asked (Did.Room size k) in let adds = told k made in
-        went pool old new root size class is same Room (Done (Has k)) may e log later adds
+        went pool old new root size class is same Ask (Done (Has k)) may e log later adds
         (read_enough shape lane class size number root (entry_of e) (same_root-refl root) class_is k le refl)
         (root_asked lane number v.own.number empty_hand root size k) (known_now pool new root size k le knows)
         (omega arith)
-        (spends v w (e ∷ []) 0 adds.grows (left_of Room) (left_after (Done (Has k))) (omega arith) (omega arith)
+        (spends v w (e ∷ []) 0 adds.grows (left_of Ask) (left_after (Done (Has k))) (omega arith) (omega arith)
         (omega arith) (λ to. omega arith))
         (λ n. omega arith)
 
     pub room_extended : AsksFor (Did.Extend size) → KnowsOf pool new root size
-        → HasGrown pool old new log later root size class Room (Done (Has size))
+        → HasGrown pool old new log later root size class Ask (Done (Has size))
     room_extended made knows =
         let e = asked (Did.Extend size) in
         let adds = adds_root pool old new may.seat_is is number note log later wrote root (Did.Extend size) None refl
         may.fits made.0 made.1 in
-        went pool old new root size class is same Room (Done (Has size)) may e log later adds
+        went pool old new root size class is same Ask (Done (Has size)) may e log later adds
         (read_extended shape lane class size number root (entry_of e) (same_root-refl root) class_is refl)
         (root_extended lane number v.own.number empty_hand root size)
         (known_now pool new root size size (omega arith) knows) (omega arith)
-        (spends v w (e ∷ []) 0 adds.grows (left_of Room) (left_after (Done (Has size))) (omega arith) (omega arith)
+        (spends v w (e ∷ []) 0 adds.grows (left_of Ask) (left_after (Done (Has size))) (omega arith) (omega arith)
         (omega arith) (λ to. omega arith))
         (λ n. omega arith)
 
@@ -107,28 +107,28 @@ module _ (pool : SharedPool) (old new : PoolSeat) (root : RootId) (size class : 
       adds = told k made
 
       short_in : (b : Bool) → has_cache class ≡ b
-          → HasGrown pool old new log later root size class Room (More (if b then Cache else Arena))
+          → HasGrown pool old new log later root size class Ask (More (if b then Cache else Arena))
       short_in true less =
-          went pool old new root size class is same Room (More Cache) may e log later adds
+          went pool old new root size class is same Ask (More Cache) may e log later adds
           (read_short shape lane class size number root (entry_of e) (same_root-refl root) class_is k lt refl)
           (root_asked lane number v.own.number empty_hand root size k)
           (counted_still v w e log later adds root may.fits, in_cache class less) (omega arith)
-          (spends v w (e ∷ []) 0 adds.grows (left_of Room) (left_of Cache) (omega arith) (omega arith)
+          (spends v w (e ∷ []) 0 adds.grows (left_of Ask) (left_of Cache) (omega arith) (omega arith)
           (omega arith) (λ to. omega arith))
           (λ n. omega arith)
       short_in false more =
-          went pool old new root size class is same Room (More Arena) may e log later adds
+          went pool old new root size class is same Ask (More Arena) may e log later adds
           (λ read.
           read_short shape lane class size number root (entry_of e) (same_root-refl root) class_is k lt refl read
           ∙ obtain_uncached shape lane class (grow_with root size) (past_caches class more)
           (behind read (entry_of e ∷ []) none_asked))
           (root_asked lane number v.own.number empty_hand root size k)
           (counted_still v w e log later adds root may.fits) (omega arith)
-          (spends v w (e ∷ []) 0 adds.grows (left_of Room) (left_of Arena) (omega arith) (omega arith)
+          (spends v w (e ∷ []) 0 adds.grows (left_of Ask) (left_of Arena) (omega arith) (omega arith)
           (omega arith) (λ to. omega arith))
           (λ n. omega arith)
 
-      pub room_short : HasGrown pool old new log later root size class Room (More (obtaining class))
+      pub room_short : HasGrown pool old new log later root size class Ask (More (obtaining class))
       room_short = short_in (has_cache class) refl
 
   -- ---- The lane's cache is asked.

@@ -36,7 +36,7 @@ use Rattle.seat_work.proofs.HandLaws.{Carries, held_on}
 use Rattle.seat_work.proofs.Holds.{region_stays}
 use Rattle.lane_core.specs.declared.counts.Counted.{Counted}
 use Rattle.lane_core.specs.declared.growing.Growing.{Growing}
-use Rattle.lane_core.specs.declared.growing.Growing.TheVariants.{Room, Cache, Arena, Grow, Put, Give}
+use Rattle.lane_core.specs.declared.growing.Growing.TheVariants.{Ask, Cache, Arena, Grow, Put, Give}
 use Rattle.lane_core.specs.declared.growing.Regrown.{Regrown}
 use Rattle.lane_core.specs.declared.stage_step.StageStep.{StageStep}
 use Rattle.lane_core.specs.declared.stage_step.StageStep.TheVariants.{Held as HeldBack}
@@ -58,7 +58,7 @@ use Rattle.lane_core.proofs.SeatCounts.{is_counted}
 
 -- each stage has a note left
 pub grow_left : (stage : Growing) → 1 ≤ (left_of stage).notes
-grow_left Room = omega arith
+grow_left Ask = omega arith
 grow_left Cache = omega arith
 grow_left Arena = omega arith
 grow_left (Grow region) = omega arith
@@ -207,7 +207,7 @@ module _ (pool : SharedPool) (old new : PoolSeat) (root : RootId) (size class : 
 
   fits_still : (stage : Growing) → view_of new ≡ view_of old → Fits pool old root size class stage
       → Fits pool new root size class stage
-  fits_still Room view fits = subst (λ (x : SeatView). HasCount root x) (sym view) fits
+  fits_still Ask view fits = subst (λ (x : SeatView). HasCount root x) (sym view) fits
   fits_still Cache view fits = (subst (λ (x : SeatView). HasCount root x) (sym view) fits.0, fits.1)
   fits_still Arena view fits = subst (λ (x : SeatView). HasCount root x) (sym view) fits
   fits_still (Grow r) view fits = (

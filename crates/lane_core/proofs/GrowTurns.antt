@@ -67,7 +67,7 @@ use Rattle.lane_core.proofs.Turning.{refused_turn}
 
 -- the count of allocations that asked a cache never falls in one
 asks_least : (stage : GrowStage) (n : ℕ) → n ≤ growing.asks_of stage n
-asks_least at.Room n = omega arith
+asks_least at.Ask n = omega arith
 asks_least at.Cache n = omega arith
 asks_least at.Arena n = omega arith
 asks_least (at.Grow r) n = omega arith
@@ -76,7 +76,7 @@ asks_least (at.Give k r) n = omega arith
 
 -- each stage has a note left
 grow_left : (stage : GrowStage) → 1 ≤ (growing.left_of stage).notes
-grow_left at.Room = omega arith
+grow_left at.Ask = omega arith
 grow_left at.Cache = omega arith
 grow_left at.Arena = omega arith
 grow_left (at.Grow r) = omega arith
@@ -338,7 +338,7 @@ module _ (pool : SharedPool) (old mid : Context) (name : ℕ) (v : View) (size c
 pub may_begin_grow : (pool : SharedPool) (old : Context) (name size class : ℕ) (v : View)
     → MayTurn pool (left_for old.composes (Command.Capacity name size)) old
     → class_of (geometry_of old.shape) size ≡ Some class → bound_at old.names name ≡ Some (Plain v.at)
-    → 0 < counted old.counts v.at.root → MayGoOn pool (Growing name v size class at.Room) old
+    → 0 < counted old.counts v.at.root → MayGoOn pool (Growing name v size class at.Ask) old
 may_begin_grow pool old name size class v may is bound lt = record {
   context = may.context;
   fits = (
@@ -389,16 +389,16 @@ module _ (pool : SharedPool) (old new : Context) (name size : ℕ) (s : LaneStat
         asks_root view = regrow old.shape number view.root size >>= (λ got. give (regrown s name view got))
 
         begun_reads : (log : Log) → reads_from old.shape number s command Ready log
-            ≡ reads_from old.shape number s command (Growing name v size class at.Room) log
+            ≡ reads_from old.shape number s command (Growing name v size class at.Ask) log
         begun_reads log =
             ap (λ o. option_and_then (λ got. swept number got.0 got.1) o)
             (goes s old.names old.counts state old.shape number command (used_first (Some class) is) log
             ∙ ap (λ (o : Option ViewData). (given o >>= asks_root) log)
             (viewed s old.names old.counts state name v.at bound))
 
-        pub begun_ask : (turn : Turn) → HasTurned pool old new s command (Growing name v size class at.Room) turn
+        pub begun_ask : (turn : Turn) → HasTurned pool old new s command (Growing name v size class at.Ask) turn
             → HasTurned pool old new s command Ready turn
         begun_ask =
-            begin.begun_turn pool old new s command (Growing name v size class at.Room) tt begun_reads
-            (within_sheds (view_of old.seat) (growing.left_of at.Room) (left_for old.composes command)
+            begin.begun_turn pool old new s command (Growing name v size class at.Ask) tt begun_reads
+            (within_sheds (view_of old.seat) (growing.left_of at.Ask) (left_for old.composes command)
             (within_same (left_for old.composes command)))

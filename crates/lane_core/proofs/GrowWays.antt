@@ -15,7 +15,7 @@ use Rattle.pool_law.specs.Patterns.{ask_arena, give_back, grow_with, obtain, one
 use Rattle.pool_law.specs.Readers.{ToldNotes, Reader, ◌>>◌, give}
 use Rattle.pool_law.proofs.PatternLemmas.{same_root-refl}
 use Rattle.lane_core.specs.declared.growing.Growing.{Growing}
-use Rattle.lane_core.specs.declared.growing.Growing.TheVariants.{Room, Cache, Arena, Grow, Put, Give}
+use Rattle.lane_core.specs.declared.growing.Growing.TheVariants.{Ask, Cache, Arena, Grow, Put, Give}
 use Rattle.lane_core.specs.Growings as growing
 use Rattle.lane_core.specs.Readings.{ReadsOn, none_asked}
 use Rattle.lane_core.proofs.GrowReads.{read_extended, read_grown}
@@ -65,7 +65,7 @@ module _ (root : RootId) (size : ℕ) where
   -- from each stage on
   pub grow_from : (shape : Shape) (lane class : ℕ) → class_of (geometry_of shape) size ≡ Some class → (stage : Growing)
       → HasWay (growing.rest_of shape lane root size class stage)
-  grow_from shape lane class is Room = regrow_way shape lane class is
+  grow_from shape lane class is Ask = regrow_way shape lane class is
   grow_from shape lane class is Cache =
       then_way (obtain shape lane class) (grow_with root size) (obtain_way shape lane class) grow_with_way
   grow_from shape lane class is Arena =

@@ -24,7 +24,7 @@ use Rattle.shared_pool.specs.Seats.{IsPoolSeat, FoundBusy}
 use Rattle.seat_work.specs.Hands.{Hand, empty_hand, IsHeld, IsRegion}
 use Rattle.lane_core.specs.declared.counts.Counted.{Counted}
 use Rattle.lane_core.specs.declared.growing.Growing.{Growing}
-use Rattle.lane_core.specs.declared.growing.Growing.TheVariants.{Room, Cache, Arena, Grow, Put, Give}
+use Rattle.lane_core.specs.declared.growing.Growing.TheVariants.{Ask, Cache, Arena, Grow, Put, Give}
 use Rattle.lane_core.specs.declared.growing.Regrown.{Regrown}
 use Rattle.lane_core.specs.declared.growing.Regrown.TheVariants.{Has, Full}
 use Rattle.lane_core.specs.declared.stage_step.StageStep.{StageStep}
@@ -47,7 +47,7 @@ leaving capacity region =
     if has_cache region.id.class then Put capacity region else Give capacity region
 
 abbrev pub hand_of : Growing → Hand
-hand_of Room = empty_hand
+hand_of Ask = empty_hand
 hand_of Cache = empty_hand
 hand_of Arena = empty_hand
 hand_of (Grow region) = record empty_hand { region = Some region.id }
@@ -61,7 +61,7 @@ hand_after (Done answer) = empty_hand
 
 -- what may still be spent on it
 abbrev pub left_of : Growing → Left
-left_of Room = left_with 6 1 1 0
+left_of Ask = left_with 6 1 1 0
 left_of Cache = left_with 5 1 1 0
 left_of Arena = left_with 4 0 1 0
 left_of (Grow region) = left_with 3 0 0 0
@@ -75,7 +75,7 @@ left_after (Done answer) = notes_alone 0
 
 -- how a log is read from this stage on, of a root that is asked for this size, of this class
 abbrev pub rest_of : Shape → ℕ → RootId → ℕ → ℕ → Growing → Reader (Result ℕ Reply)
-rest_of shape lane root size class Room = regrow shape lane root size
+rest_of shape lane root size class Ask = regrow shape lane root size
 rest_of shape lane root size class Cache = obtain shape lane class >>= grow_with root size
 rest_of shape lane root size class Arena = ask_arena shape lane class >>= grow_with root size
 rest_of shape lane root size class (Grow region) = grow_with root size (Some region.id)
@@ -117,7 +117,7 @@ pub record Knows (root : RootId) (size capacity : ℕ) (v : SeatView) : Type 0 w
 -- the root is counted while it is asked; what is in hand is the pool's: a region to grow into is of
 -- the class, and one is left over once the root has its capacity
 abbrev pub Fits : SharedPool → PoolSeat → RootId → ℕ → ℕ → Growing → Type 0
-Fits pool seat root size class Room = HasCount root (view_of seat)
+Fits pool seat root size class Ask = HasCount root (view_of seat)
 Fits pool seat root size class Cache = HasCount root (view_of seat) × (class < cached_classes)
 Fits pool seat root size class Arena = HasCount root (view_of seat)
 Fits pool seat root size class (Grow region) =

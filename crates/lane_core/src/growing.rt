@@ -16,7 +16,7 @@ use size_classes::CACHED_CLASSES;
 /// What is to be done next for a root that is asked for capacity.
 pub enum Growing {
     /// The root is asked.
-    Room,
+    Ask,
     /// The lane's cache of the class is asked for a region.
     Cache,
     /// The lane's arena is asked for a region.
@@ -65,7 +65,7 @@ pub fn grow(
 {
     let want = Want { root, size, class };
     match stage {
-        Growing::Room => ask_root(pool, seat, log, want),
+        Growing::Ask => ask_root(pool, seat, log, want),
         Growing::Cache => ask_cache(pool, seat, log, want),
         Growing::Arena => ask_arena(pool, shape, seat, log, want),
         Growing::Grow(region) => grow_into(pool, seat, log, want, region),
@@ -81,12 +81,12 @@ fn ask_root(
     log: &mut Vec<Note>,
     want: Want,
 ) -> StageStep<Growing, Regrown>
-    requires may { MayGrow pool.now seat.old want.root want.size want.class Growing.Room }
+    requires may { MayGrow pool.now seat.old want.root want.size want.class Growing.Ask }
     requires class { let shape = pool.now.table.layout.shape in
         class_of (geometry_of shape) want.size ≡ Some want.class }
     requires room { length log.old.items < vec_capacity log.old }
     ensures { HasGrown pool.now seat.old seat.new log.old log.new want.root want.size want.class
-        Growing.Room result }
+        Growing.Ask result }
 {
     let asked = want.size;
     let place = Object::Root(want.root.place);
@@ -103,7 +103,7 @@ fn ask_root(
             write(log, at(place, number, Did::Room { asked, capacity }));
             StageStep::More(obtaining(want.class))
         }
-        Went::Held(held, ()) => StageStep::Held(held, Growing::Room),
+        Went::Held(held, ()) => StageStep::Held(held, Growing::Ask),
     }
 }
 

@@ -44,7 +44,7 @@ impl Context {
         let Some(class) = self.classes.class_of(size) else {
             return self.refuse(Refusal::TooLarge);
         };
-        self.regrow(pool, name, view, size, class, Growing::Room)
+        self.regrow(pool, name, view, size, class, Growing::Ask)
     }
 
     /// Goes on with that. Once the root has so much, the view reaches up to its end.

@@ -88,7 +88,7 @@ fn spend_allotting(stage: Allotting) {
 
 fn spend_growing(stage: Growing) {
     match stage {
-        Growing::Room | Growing::Cache | Growing::Arena => {}
+        Growing::Ask | Growing::Cache | Growing::Arena => {}
         Growing::Grow(region) => leave(region),
         Growing::Put(_, region) | Growing::Give(_, region) => leave(region),
     }

@@ -9,19 +9,19 @@ use std::alloc::{AllocError, Global};
 
 /// The memory for the work of one lane.
 #[derive(Drop)]
-pub struct Room {
+pub struct LaneMemory {
     roots: Vec<RootId>,
     ghost root_room: { 512 ≤ vec_capacity roots },
 }
 
 /// The memory for the work of so many lanes.
-pub fn rooms_for(alloc: Global, lanes: u32) -> Result<Vec<Room>, AllocError>
+pub fn rooms_for(alloc: Global, lanes: u32) -> Result<Vec<LaneMemory>, AllocError>
     ensures { IfOk result (λ rooms. vec_len rooms ≡ lanes) }
 {
     let mut rooms = Vec::with_capacity(alloc, lanes as usize)?;
     for _made in 0..lanes {
         let roots = Vec::with_capacity(alloc, 512)?;
-        rooms.push_reserved(Room { roots });
+        rooms.push_reserved(LaneMemory { roots });
     }
     Ok(rooms)
 }
@@ -31,7 +31,7 @@ pub fn rooms_for(alloc: Global, lanes: u32) -> Result<Vec<Room>, AllocError>
 pub fn runners_of(
     alloc: Global,
     mut seats: Vec<PoolSeat>,
-    mut rooms: Vec<Room>,
+    mut rooms: Vec<LaneMemory>,
 ) -> Result<(Vec<Runner>, Vec<PoolSeat>), Vec<PoolSeat>>
     requires many { vec_len rooms ≡ vec_len seats }
     ensures seats { IfOk result (λ r. map (λ q. q.seat) r.0.items ≡ seats.items) }
@@ -45,7 +45,7 @@ pub fn runners_of(
     };
     for _made in 0..count {
         let seat = seats.remove(0);
-        let Room { roots } = rooms.remove(0);
+        let LaneMemory { roots } = rooms.remove(0);
         runners.push_reserved(Runner {
             seat,
             roots,

@@ -7,7 +7,7 @@ use Rattle.shared_pool.specs.Seats.{IsNoted}
 use Rattle.shared_pool.specs.declared.went.Room.{Room}
 use Rattle.lane_core.specs.Growings.{HasGrown}
 use Rattle.lane_core.specs.declared.growing.Growing.{Growing}
-use Rattle.lane_core.specs.declared.growing.Growing.TheVariants.{Room as AskRoom}
+use Rattle.lane_core.specs.declared.growing.Growing.TheVariants.{Ask}
 use Rattle.lane_core.specs.declared.stage_step.StageStep.TheVariants.{More}
 use Rattle.lane_core.proofs.NextNotes.{then_begins, room_begins}
 use Rattle.lane_core.proofs.GrowAsks.{room_enough, room_extended, room_short}
@@ -46,7 +46,7 @@ returns-in-Did-default-Short c =
     let noted = subst (λ (x : Room). IsNoted pool old new (Root root.place) did.number
     (access root (room_did want.size x))) did.field-1-is did.ensures.did in
     let lt = subst (λ (x : Room). IsRoomFor want.size x) did.field-1-is did.ensures.answer in
-    subst (λ (g : Growing). HasGrown pool old new log wrote.new.log root want.size want.class AskRoom (More g))
+    subst (λ (g : Growing). HasGrown pool old new log wrote.new.log root want.size want.class Ask (More g))
     (sym c.obtaining.ensures)
     (room_short pool old new root want.size want.class did.ensures.seat did.ensures.same c.requires.may c.requires.class
     did.number at.result log wrote.new.log wrote.ensures did.capacity (noted, at.ensures) lt)
@@ -56,5 +56,5 @@ returns-in-Held c =
     let pool = c.args.pool.now in let old = c.args.seat.now in let new = c.room.new.seat in let want = c.args.want in
     let held = c.in-Held in let root = want.root in
     grow_held pool old new root want.size want.class held.ensures.seat held.ensures.same (Root root.place) held.held
-    AskRoom AskRoom c.args.log.now c.requires.may refl held.ensures.held refl
+    Ask Ask c.args.log.now c.requires.may refl held.ensures.held refl
     (then_begins (Root root.place) _ _ (room_begins root want.size))
