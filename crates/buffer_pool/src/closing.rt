@@ -11,7 +11,7 @@ use crate::name::PoolName;
 use crate::pool::Pool;
 use crate::thread::PoolThread;
 use crate::threads::{members_of, threads_of};
-use pool_member::{CloseNo, Closed, Room, close_all};
+use pool_member::{CloseMemory, CloseNo, Closed, close_all};
 use std::alloc::Global;
 use std::mem::ManuallyDrop;
 
@@ -51,7 +51,7 @@ impl<B: PoolName> Pool<B> {
         ensures back { IfErr result (λ back.
             (back.pool ≡ self) × (back.threads.items ≡ threads.items)) }
     {
-        let Ok(room) = Room::take(alloc, threads.len()) else {
+        let Ok(room) = CloseMemory::take(alloc, threads.len()) else {
             let why = CloseNo::Memory;
             return Err(NotClosed {
                 why,
@@ -65,7 +65,7 @@ impl<B: PoolName> Pool<B> {
             threads: lanes,
             of,
         } = self;
-        let Room {
+        let CloseMemory {
             members,
             seats,
             rests,

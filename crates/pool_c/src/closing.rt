@@ -14,7 +14,7 @@ use crate::held::{Common, Held};
 use crate::opening::{boxes, leave, place};
 use crate::thread::{EMPTY, READY};
 use pool_member::work::settling::is_nothing;
-use pool_member::{Member, Room, close_all};
+use pool_member::{CloseMemory, Member, close_all};
 use std::alloc::Global;
 use std::sync::Arc;
 
@@ -42,7 +42,7 @@ pub(crate) fn close(alloc: Global, threads: &mut [PoolThread]) -> Result<PoolEnd
         place(threads, all);
         return Err(why);
     }
-    let Ok(room) = Room::take(alloc, all.len()) else {
+    let Ok(room) = CloseMemory::take(alloc, all.len()) else {
         place(threads, all);
         return Err(Refusal::NoMemory);
     };
@@ -146,7 +146,7 @@ fn close_taken(
     alloc: Global,
     threads: &mut [PoolThread],
     all: Vec<Box<Held, Global>>,
-    room: Room,
+    room: CloseMemory,
 ) -> Result<PoolEnd, Refusal>
     requires many { vec_len all ≡ length threads.old }
     requires some { 0 < vec_len all }
@@ -160,7 +160,7 @@ fn close_taken(
     ensures back { IfErr result (λ why. IsLate why
         × (ArePut (map box_value all.items) threads.new ⊎ AreEmpty threads.new)) }
 {
-    let Room {
+    let CloseMemory {
         members,
         seats,
         rests,

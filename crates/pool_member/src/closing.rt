@@ -26,7 +26,7 @@ pub struct Rest {
 }
 
 /// The memory for the close of a pool: three empty lists with room for each of its threads.
-pub struct Room {
+pub struct CloseMemory {
     /// For the threads.
     pub members: Vec<Member>,
     /// For their seats.
@@ -35,9 +35,9 @@ pub struct Room {
     pub rests: Vec<Rest>,
 }
 
-impl Room {
+impl CloseMemory {
     /// That for so many threads.
-    pub fn take(alloc: Global, threads: usize) -> Result<Room, AllocError>
+    pub fn take(alloc: Global, threads: usize) -> Result<CloseMemory, AllocError>
         ensures empty { IfOk result (λ r. (r.members.items ≡ []) × (r.seats.items ≡ [])
             × (r.rests.items ≡ [])) }
         ensures room { IfOk result (λ r. (threads ≤ vec_capacity r.members)
@@ -49,7 +49,7 @@ impl Room {
             members.destroy_empty();
             return Err(AllocError);
         };
-        Ok(Room {
+        Ok(CloseMemory {
             members,
             seats,
             rests,
