@@ -39,7 +39,7 @@ mod work;
 
 use draws::Draws;
 use runner::Runner;
-use runners::{rooms_for, runners_of, seats_of};
+use runners::{memory_for, runners_of, seats_of};
 use words::{Plan, layout_of, mail_for, plan_of};
 use work::{draws_of, run};
 
@@ -107,9 +107,9 @@ fn measure<R: Threads + Wait + Sync + Clock + AllocGlobal>(
     let layout = layout_of(plan);
     let shape = layout.shape;
     let sizes = SizeClasses::new(rt.alloc(), shape.order, shape.page)?;
-    let rooms = rooms_for(rt.alloc(), plan.threads)?;
+    let memory = memory_for(rt.alloc(), plan.threads)?;
     let (pool, seats) = SharedPool::new(rt.alloc(), layout, mail.as_slice())?;
-    let (mut runners, spare) = match runners_of(rt.alloc(), seats, rooms) {
+    let (mut runners, spare) = match runners_of(rt.alloc(), seats, memory) {
         Ok(made) => made,
         Err(seats) => {
             close(rt, rt.alloc(), pool, seats)?;

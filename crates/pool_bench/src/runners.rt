@@ -15,15 +15,15 @@ pub struct LaneMemory {
 }
 
 /// The memory for the work of so many lanes.
-pub fn rooms_for(alloc: Global, lanes: u32) -> Result<Vec<LaneMemory>, AllocError>
-    ensures { IfOk result (λ rooms. vec_len rooms ≡ lanes) }
+pub fn memory_for(alloc: Global, lanes: u32) -> Result<Vec<LaneMemory>, AllocError>
+    ensures { IfOk result (λ memory. vec_len memory ≡ lanes) }
 {
-    let mut rooms = Vec::with_capacity(alloc, lanes as usize)?;
+    let mut memory = Vec::with_capacity(alloc, lanes as usize)?;
     for _made in 0..lanes {
         let roots = Vec::with_capacity(alloc, 512)?;
-        rooms.push_reserved(LaneMemory { roots });
+        memory.push_reserved(LaneMemory { roots });
     }
-    Ok(rooms)
+    Ok(memory)
 }
 
 /// A runner for each of these seats, in order, and the list that held them, emptied. Want of memory
@@ -31,9 +31,9 @@ pub fn rooms_for(alloc: Global, lanes: u32) -> Result<Vec<LaneMemory>, AllocErro
 pub fn runners_of(
     alloc: Global,
     mut seats: Vec<PoolSeat>,
-    mut rooms: Vec<LaneMemory>,
+    mut memory: Vec<LaneMemory>,
 ) -> Result<(Vec<Runner>, Vec<PoolSeat>), Vec<PoolSeat>>
-    requires many { vec_len rooms ≡ vec_len seats }
+    requires many { vec_len memory ≡ vec_len seats }
     ensures seats { IfOk result (λ r. map (λ q. q.seat) r.0.items ≡ seats.items) }
     ensures room { IfOk result (λ r.
         (r.1.items ≡ []) × (vec_len r.0 ≤ vec_capacity r.1)) }
@@ -45,7 +45,7 @@ pub fn runners_of(
     };
     for _made in 0..count {
         let seat = seats.remove(0);
-        let LaneMemory { roots } = rooms.remove(0);
+        let LaneMemory { roots } = memory.remove(0);
         runners.push_reserved(Runner {
             seat,
             roots,

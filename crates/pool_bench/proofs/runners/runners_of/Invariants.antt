@@ -7,7 +7,7 @@ invariant-loop-made l = record {
   seats : map (λ (q : Runner). q.seat) l.runners.items ++ l.seats.items ≡ l.fn.seats.items;
   seats_left : vec_len l.seats + l._made ≡ l.count;
   seats_room : l.count ≤ vec_capacity l.seats;
-  rooms_left : vec_len l.rooms + l._made ≡ l.count;
+  memory_left : vec_len l.memory + l._made ≡ l.count;
   made : vec_len l.runners ≡ l._made;
   room : l.count ≤ vec_capacity l.runners;
 }
