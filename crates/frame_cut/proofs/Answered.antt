@@ -11,19 +11,19 @@ use Rattle.frame_core.specs.Frames.{frames_of}
 use Rattle.frame_hash.specs.declared.shop.Shop.{Shop}
 use Rattle.frame_hash.specs.declared.worker.Work.TheVariants.{Done}
 use Rattle.frame_hash.specs.declared.worker.Worker.{Worker}
-use Rattle.frame_cutter.specs.declared.desk.Desk.{Desk}
+use Rattle.frame_cutter.specs.declared.cutter.Cutter.{Cutter}
 use Rattle.frame_cutter.specs.declared.stage.Stage.TheVariants.{Over}
 use Rattle.frame_cutter.specs.declared.stage.Verdict.{Verdict}
 use Rattle.frame_cutter.specs.declared.stage.Verdict.TheVariants.{Whole, Refused, Fault}
-use Rattle.frame_cutter.specs.Standing.{DeskCame, HasVerdict, IsMet, IsUnderway, is_fault}
+use Rattle.frame_cutter.specs.Standing.{CutterCame, HasVerdict, IsMet, IsUnderway, is_fault}
 use Rattle.frame_cutter.specs.Stops.{StopsWithin}
 use Rattle.frame_cut.specs.declared.closing.StreamEnd.{StreamEnd}
 use Rattle.frame_cut.specs.Outcomes.{HasTaken, IsMetAt}
 use Rattle.frame_cut.specs.Tellings.{HasTold, Tells}
 use Rattle.frame_cut.proofs.Together.{AreTogether, tells_all}
 
-module _ {S : Type 0} (left : S → Option (List ℕ)) (faults : S → ℕ) (shop : Shop) (old new : S) (first d : Desk)
-    (came : DeskCame left faults shop old new first d) (block : ℕ) (size : first.block ≡ block) where
+module _ {S : Type 0} (left : S → Option (List ℕ)) (faults : S → ℕ) (shop : Shop) (old new : S) (first d : Cutter)
+    (came : CutterCame left faults shop old new first d) (block : ℕ) (size : first.block ≡ block) where
   abbrev src : SourceSpan
   src = source_span left faults old new
 

@@ -32,15 +32,15 @@ use Rattle.frame_hash.specs.declared.worker.Work.TheVariants as works
 use Rattle.frame_hash.specs.declared.worker.Worker.{Worker}
 use Rattle.frame_hash.specs.Standing.{IsAtWork, WorkerStands}
 use Rattle.frame_hash.specs.Takes.{CountsNone, HasTaken, PostNothing, WriteNothing, fetches_in}
-use Rattle.frame_cutter.specs.declared.desk.Desk.{Desk}
+use Rattle.frame_cutter.specs.declared.cutter.Cutter.{Cutter}
 use Rattle.frame_cutter.specs.declared.stage.Stage.{Stage}
 use Rattle.frame_cutter.specs.declared.stage.Stage.TheVariants.{Filling}
 use Rattle.frame_cutter.specs.Sends.{AreSlices, HasSent, WriteFresh}
 use Rattle.frame_cutter.specs.Stages.{jobs_at, pieces_at, roots_at}
-use Rattle.frame_cutter.specs.Standing.{CountsJust, DeskStands, HasBlock, HasServed, IsUnderway, StandsAt}
+use Rattle.frame_cutter.specs.Standing.{CountsJust, CutterStands, HasBlock, HasServed, IsUnderway, StandsAt}
 use Rattle.frame_cut.specs.declared.openings.Opened.{Opened}
 use Rattle.frame_cut.specs.declared.openings.TheConstants.{ORDER}
-use Rattle.frame_cut.specs.Openings.{AreHired, AreLines, IsNewDesk, IsNewPool, IsNewWorker, layout_of}
+use Rattle.frame_cut.specs.Openings.{AreHired, AreLines, IsNewCutter, IsNewPool, IsNewWorker, layout_of}
 use Rattle.frame_cut.specs.Tellings.{IsHired, IsOpen, IsShopOf}
 use Rattle.frame_cut.proofs.ListSteps.{there}
 
@@ -183,16 +183,16 @@ module _ (workers room : ℕ) (o : Opened) (seats : List PoolSeat) (own : PoolSe
     (lines : AreLines workers o.queues.items senders receivers)
     (hired : AreHired workers seats receivers workers o.workers.items)
     (own_at : slice_get seats workers ≡ Some own)
-    (desk : IsNewDesk workers own senders rooms block class o.desk)
+    (cutter : IsNewCutter workers own senders rooms block class o.cutter)
     (long : 0 < block) (short : block ≤ 65536)
     (class_at : class_of (of_pages ORDER DEFAULT_PAGE) block ≡ Some class)
     (shop : Shop) (is : IsShopOf shop o) where
-  abbrev d : Desk
-  d = o.desk
+  abbrev d : Cutter
+  d = o.cutter
 
-  desk_opened : IsOpened (layout_of (workers + 1)) o.pool workers d.seat
-  desk_opened =
-      subst (IsOpened (layout_of (workers + 1)) o.pool workers) (sym desk.seat_is)
+  cutter_opened : IsOpened (layout_of (workers + 1)) o.pool workers d.seat
+  cutter_opened =
+      subst (IsOpened (layout_of (workers + 1)) o.pool workers) (sym cutter.seat_is)
       (opened_at workers o.pool seats new workers own (omega arith) own_at)
 
   abbrev notes : List Entry
@@ -202,96 +202,96 @@ module _ (workers room : ℕ) (o : Opened) (seats : List PoolSeat) (own : PoolSe
   stands_at = record {
     works =
         subst (λ (p : SharedPool). Works p empty_hand d.turns d.moves d.seat) (sym is.pool)
-        (opened_works o.pool (layout_of (workers + 1)) workers d.turns d.moves d.seat desk_opened
-        (let a = desk.turns in omega (arith, a)) (let a = desk.moves in omega (arith, a)));
-    lane = desk_opened.number ∙ ap (λ (n : ℕ). Some n) (sym desk.workers_are);
+        (opened_works o.pool (layout_of (workers + 1)) workers d.turns d.moves d.seat cutter_opened
+        (let a = cutter.turns in omega (arith, a)) (let a = cutter.moves in omega (arith, a)));
+    lane = cutter_opened.number ∙ ap (λ (n : ℕ). Some n) (sym cutter.workers_are);
     lanes =
         (let a = ap (λ (p : SharedPool). p.table.layout.shape.lanes) is.pool in
-        let b = lanes_are workers o.pool seats new in let c = desk.workers_are in omega (arith, a, b, c));
-    some = (let a = desk.workers_are in omega (arith, a, some));
+        let b = lanes_are workers o.pool seats new in let c = cutter.workers_are in omega (arith, a, b, c));
+    some = (let a = cutter.workers_are in omega (arith, a, some));
     queues =
-        (let a = ap (λ qs. length qs) is.queues in let b = lines.queues_many in let c = desk.workers_are in
+        (let a = ap (λ qs. length qs) is.queues in let b = lines.queues_many in let c = cutter.workers_are in
         omega (arith, a, b, c));
     ends =
-        (let a = ap (λ (es : List (Pass Job JobLog)). length es) desk.ends_are in let b = lines.senders_many in
-        let c = desk.workers_are in omega (arith, a, b, c));
+        (let a = ap (λ (es : List (Pass Job JobLog)). length es) cutter.ends_are in let b = lines.senders_many in
+        let c = cutter.workers_are in omega (arith, a, b, c));
     rooms =
-        (let a = ap (λ (ns : List ℕ). length ns) (desk.rooms_are ∙ rooms_are) in
-        let b = length-replicate workers room in let c = desk.workers_are in omega (arith, a, b, c));
+        (let a = ap (λ (ns : List ℕ). length ns) (cutter.rooms_are ∙ rooms_are) in
+        let b = length-replicate workers room in let c = cutter.workers_are in omega (arith, a, b, c));
   }
 
   has_block : HasBlock shop d
   has_block = record {
-    some = (let a = desk.block_is in omega (arith, a, long));
-    few = (let a = desk.block_is in omega (arith, a, short));
+    some = (let a = cutter.block_is in omega (arith, a, long));
+    few = (let a = cutter.block_is in omega (arith, a, short));
     class =
-        (λ i. class_of (geometry_of (is.pool i).table.layout.shape) (desk.block_is i))
+        (λ i. class_of (geometry_of (is.pool i).table.layout.shape) (cutter.block_is i))
         ∙ ap (λ (l : Layout). class_of (geometry_of l.shape) block) (layout_is workers o.pool seats new)
         ∙ class_at
-        ∙ ap (λ (n : ℕ). Some n) (sym desk.class_is);
+        ∙ ap (λ (n : ℕ). Some n) (sym cutter.class_is);
   }
 
   no_pieces : (worker : ℕ) → pieces_at d.workers worker [] d.stage [] ≡ []
   no_pieces worker =
-      ap (λ (s : Stage). pieces_at d.workers worker [] s []) desk.stage
+      ap (λ (s : Stage). pieces_at d.workers worker [] s []) cutter.stage
       ∙ nothing_taken (0 % d.workers == worker)
 
   room_here : (worker : ℕ) → worker < workers → RoomFor shop.pool.now d.workers worker room
   room_here worker below =
       subst (λ (x : SharedPool × ℕ). RoomFor x.0 x.1 worker room)
-      (λ i. (sym is.pool i, sym desk.workers_are i)) (new.rooms worker below)
+      (λ i. (sym is.pool i, sym cutter.workers_are i)) (new.rooms worker below)
 
   has_served : (worker : ℕ) → worker < d.workers → HasServed shop d [] [] worker
   has_served worker lt =
-      let below : worker < workers = (let a = desk.workers_are in omega (arith, a, lt)) in
+      let below : worker < workers = (let a = cutter.workers_are in omega (arith, a, lt)) in
       let s = there senders worker (let n = lines.senders_many in omega (arith, n, below)) in
       let r = there receivers worker (let n = lines.receivers_many in omega (arith, n, below)) in
       let q = there o.queues.items worker (let n = lines.queues_many in omega (arith, n, below)) in
       record {
         end = s.0;
-        end_is = ap (λ (es : List (Pass Job JobLog)). slice_get es worker) desk.ends_are ∙ s.1;
+        end_is = ap (λ (es : List (Pass Job JobLog)). slice_get es worker) cutter.ends_are ∙ s.1;
         sends = (line_at workers o seats senders receivers new lines hired shop is worker below s.0 r.0 s.1 r.1).0;
         jobs =
             (lines.each worker q.0 s.0 r.0 q.1 s.1 r.1).sent
-            ∙ ap (λ (st : Stage). jobs_at d.workers worker [] st) (sym desk.stage);
+            ∙ ap (λ (st : Stage). jobs_at d.workers worker [] st) (sym cutter.stage);
         sent =
             subst (HasSent notes d.workers worker) (sym (no_pieces worker))
-            (sent_none notes d.workers worker desk_opened.notes);
+            (sent_none notes d.workers worker cutter_opened.notes);
         few =
-            (let a = ap (sent_on d.workers worker) desk_opened.notes in
-            let b = ap (λ vs. length vs) desk.slices in let c = desk.moves in omega (arith, a, b, c));
+            (let a = ap (sent_on d.workers worker) cutter_opened.notes in
+            let b = ap (λ vs. length vs) cutter.slices in let c = cutter.moves in omega (arith, a, b, c));
         room = λ m.
-            (let a = ap (sent_on d.workers worker) desk_opened.notes in
-            let b = ap (λ (ns : List ℕ). slice_index ns worker) (desk.rooms_are ∙ rooms_are) in
+            (let a = ap (sent_on d.workers worker) cutter_opened.notes in
+            let b = ap (λ (ns : List ℕ). slice_index ns worker) (cutter.rooms_are ∙ rooms_are) in
             let c = get_or-replicate workers worker room 0 below in
             let e = room_here worker below m in omega (arith, a, b, c, e));
       }
 
   begins : IsUnderway Filling d [] [] []
-  begins = (desk.last, record { frames = frames_of-nil; healthy = desk.verdict }, desk.cut, (0, omega arith))
+  begins = (cutter.last, record { frames = frames_of-nil; healthy = cutter.verdict }, cutter.cut, (0, omega arith))
 
   counts_just : CountsJust (roots_at d.stage d.slices.items) (view_of d.seat)
   counts_just root =
-      let even = counts_none (view_of d.seat) desk_opened.notes desk_opened.seat.alone in
+      let even = counts_none (view_of d.seat) cutter_opened.notes cutter_opened.seat.alone in
       subst (λ (x : Stage × List ViewData). CountsJust (roots_at x.0 x.1) (view_of d.seat))
-      (λ i. (sym desk.stage i, sym desk.slices i))
+      (λ i. (sym cutter.stage i, sym cutter.slices i))
       (λ r. (let a = even r in omega (arith, a))) root
 
-  pub desk_stands : DeskStands shop d []
-  desk_stands = record {
+  pub cutter_stands : CutterStands shop d []
+  cutter_stands = record {
     stands = stands_at;
     block = has_block;
     counts = counts_just;
     handed = [];
     pieces = [];
-    frames = desk.frames;
-    fresh = writes_none notes desk_opened.notes;
+    frames = cutter.frames;
+    fresh = writes_none notes cutter_opened.notes;
     slices =
-        subst (λ vs. AreSlices notes (Some d.workers) vs []) (sym desk.slices)
+        subst (λ vs. AreSlices notes (Some d.workers) vs []) (sym cutter.slices)
         (record { many = refl; each = λ k v piece e f. absurd (cc e) });
     served = has_served;
-    others = λ to le. sent_none notes d.workers to desk_opened.notes;
-    underway = subst (λ (s : Stage). IsUnderway s d [] [] []) (sym desk.stage) begins;
+    others = λ to le. sent_none notes d.workers to cutter_opened.notes;
+    underway = subst (λ (s : Stage). IsUnderway s d [] [] []) (sym cutter.stage) begins;
   }
 
 -- ---- All of it.
@@ -301,22 +301,22 @@ pub is_open : (workers room : ℕ) (o : Opened) (seats : List PoolSeat) (own : P
     → (block class : ℕ) → 0 < workers
     → IsNewPool workers room o.pool seats → AreLines workers o.queues.items senders receivers
     → AreHired workers seats receivers workers o.workers.items → slice_get seats workers ≡ Some own
-    → IsNewDesk workers own senders rooms block class o.desk → 0 < block → block ≤ 65536
+    → IsNewCutter workers own senders rooms block class o.cutter → 0 < block → block ≤ 65536
     → class_of (of_pages ORDER DEFAULT_PAGE) block ≡ Some class
     → (o.seats.items ≡ []) × (workers + 1 ≤ vec_capacity o.seats)
     → (o.told.items ≡ []) × (workers ≤ vec_capacity o.told) → IsOpen workers block o
-is_open w room o seats own senders receivers rooms rooms_are block class some new lines hired own_at desk long short
+is_open w room o seats own senders receivers rooms rooms_are block class some new lines hired own_at made long short
     class_at left told =
     record {
       cutter = λ shop at.
-          desk_stands w room o seats own senders receivers rooms rooms_are block class some new lines hired own_at desk
-          long short class_at shop at;
-      count = desk.workers_are;
-      long = desk.block_is;
+          cutter_stands w room o seats own senders receivers rooms rooms_are block class some new lines hired own_at
+          made long short class_at shop at;
+      count = made.workers_are;
+      long = made.block_is;
       some = some;
       many = hired.many;
       hired = λ shop at k x e. each_hired w o seats senders receivers new lines hired shop at k x e;
       seats = left;
       told = told;
-      begun = (desk.last, desk.verdict);
+      begun = (made.last, made.verdict);
     }

@@ -16,9 +16,9 @@ use Rattle.frame_hash.specs.declared.shop.Shop.{Shop}
 use Rattle.frame_hash.specs.declared.worker.Worker.{Worker}
 use Rattle.frame_hash.specs.Standing.{WorkerCame, WorkerStands}
 use Rattle.frame_cutter.specs.declared.cutting.Cutting as machines
-use Rattle.frame_cutter.specs.declared.desk.Desk.{Desk}
+use Rattle.frame_cutter.specs.declared.cutter.Cutter.{Cutter}
 use Rattle.frame_cutter.specs.declared.stage.Verdict.TheVariants.{Whole}
-use Rattle.frame_cutter.specs.Standing.{CutterCame, DeskCame, DeskStands, is_fault}
+use Rattle.frame_cutter.specs.Standing.{CuttingCame, CutterCame, CutterStands, is_fault}
 use Rattle.frame_cut.specs.declared.openings.Opened.{Opened}
 use Rattle.frame_cut.specs.Tellings.{HasEnds, IsOpen, IsShopOf}
 use Rattle.frame_cut.proofs.WorkerEnds.{StandsThere}
@@ -27,9 +27,9 @@ consumes_none : (left : Option (List ℕ)) → Consumes left left []
 consumes_none None = tt
 consumes_none (Some xs) = refl
 
--- the desk that has read nothing has come of itself
-started : {S : Type 0} (left : S → Option (List ℕ)) (faults : S → ℕ) (shop : Shop) (source : S) (d : Desk)
-    → DeskStands shop d [] → d.last ≡ false → d.verdict ≡ Whole → DeskCame left faults shop source source d d
+-- the cutter that has read nothing has come of itself
+started : {S : Type 0} (left : S → Option (List ℕ)) (faults : S → ℕ) (shop : Shop) (source : S) (d : Cutter)
+    → CutterStands shop d [] → d.last ≡ false → d.verdict ≡ Whole → CutterCame left faults shop source source d d
 started left faults shop source d stands last sound =
     let none : is_fault d.verdict ≡ false = ap is_fault sound in
     record {
@@ -44,12 +44,12 @@ started left faults shop source d stands last sound =
 
 -- and so has its cutter
 pub cutter_started : {S : Type 0} (left : S → Option (List ℕ)) (faults : S → ℕ) (shop : Shop) (c : machines.Cutting S)
-    → DeskStands shop c.desk.now [] → c.desk.now.last ≡ false → c.desk.now.verdict ≡ Whole
-    → CutterCame left faults shop c c
+    → CutterStands shop c.cutter.now [] → c.cutter.now.last ≡ false → c.cutter.now.verdict ≡ Whole
+    → CuttingCame left faults shop c c
 cutter_started left faults shop c stands last sound = record {
   source = refl;
-  desk = refl;
-  came = started left faults shop c.source.now c.desk.now stands last sound;
+  cutter = refl;
+  came = started left faults shop c.source.now c.cutter.now stands last sound;
 }
 
 -- and each worker
@@ -57,8 +57,8 @@ pub came_first : (shop : Shop) (ws : List Worker) → All (WorkerStands shop) ws
     → All (λ (w : Worker). WorkerCame shop w w) ws
 came_first shop ws stand k d lt = record { stands = stand k d lt; same = record { number = refl; cutter = refl } }
 
--- the workers of a desk, each at its place
-pub record HasRun (shop : Shop) (d : Desk) (ws : List Worker) : Type 0 where
+-- the workers of a cutter, each at its place
+pub record HasRun (shop : Shop) (d : Cutter) (ws : List Worker) : Type 0 where
   pub many : length ws ≡ d.workers
   pub stand : (k : ℕ) (w : Worker) → slice_get ws k ≡ Some w → StandsThere shop d.workers k w
 
@@ -79,7 +79,7 @@ module _ (shop : Shop) (workers block : ℕ) (o : Opened) (open' : IsOpen worker
       }
 
   -- as many as there were, each at its place
-  pub has_run : (d : Desk) → d.workers ≡ o.desk.workers → (ws : List Worker)
+  pub has_run : (d : Cutter) → d.workers ≡ o.cutter.workers → (ws : List Worker)
       → EachCame (WorkerCame shop) o.workers.items ws → length ws ≡ length o.workers.items → HasRun shop d ws
   has_run d workers_are ws came count =
       let n : d.workers ≡ workers = workers_are ∙ open'.count in
@@ -91,19 +91,19 @@ module _ (shop : Shop) (workers block : ℕ) (o : Opened) (open' : IsOpen worker
 -- ---- Their queues and their seats.
 
 -- the ends of each worker's queue
-module _ (shop : Shop) (d : Desk) (read : List ℕ) (ws : List Worker) (desk : DeskStands shop d read)
+module _ (shop : Shop) (d : Cutter) (read : List ℕ) (ws : List Worker) (cutter : CutterStands shop d read)
     (run : HasRun shop d ws) where
   pub queues_many : length ws ≡ length shop.queues.now
-  queues_many = let a = desk.stands.queues in let b = run.many in omega (arith, a, b)
+  queues_many = let a = cutter.stands.queues in let b = run.many in omega (arith, a, b)
 
   pub has_ends : (k : ℕ) (w : Worker) → slice_get ws k ≡ Some w → HasEnds shop.queues.now d.ends.items k w.jobs
   has_ends k w e =
       let within = slice_get_within ws k w e in
       let there = run.stand k w e in
       let below : k < d.workers = (let a = run.many in omega (arith, a, within)) in
-      let served = desk.served k below in
+      let served = cutter.served k below in
       record {
-        inside = (let a = desk.stands.queues in omega (arith, a, below));
+        inside = (let a = cutter.stands.queues in omega (arith, a, below));
         end = served.end;
         end_is = served.end_is;
         sends = served.sends;
@@ -117,10 +117,10 @@ done_seat : (pool : SharedPool) (turns moves lane : ℕ) (s : PoolSeat) → Work
 done_seat pool turns moves lane s works number =
     record { seat = works.seat; number = number; nothing = has_nothing (view_of s) works.held }
 
-pub desk_done : (shop : Shop) (d : Desk) (read : List ℕ) → DeskStands shop d read
+pub cutter_done : (shop : Shop) (d : Cutter) (read : List ℕ) → CutterStands shop d read
     → IsDone shop.pool.now d.workers d.seat
-desk_done shop d read desk =
-    done_seat shop.pool.now d.turns d.moves d.workers d.seat desk.stands.works desk.stands.lane
+cutter_done shop d read cutter =
+    done_seat shop.pool.now d.turns d.moves d.workers d.seat cutter.stands.works cutter.stands.lane
 
 pub worker_done : (shop : Shop) (workers k : ℕ) (w : Worker) → StandsThere shop workers k w
     → IsDone shop.pool.now k w.seat

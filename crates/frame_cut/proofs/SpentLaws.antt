@@ -15,10 +15,10 @@ use Rattle.frame_hash.specs.declared.shop.Shop.{Shop}
 use Rattle.frame_hash.specs.declared.worker.Work.TheVariants.{Done}
 use Rattle.frame_hash.specs.declared.worker.Worker.{Worker}
 use Rattle.frame_hash.specs.Takes.{CountsNone}
-use Rattle.frame_cutter.specs.declared.desk.Desk.{Desk}
+use Rattle.frame_cutter.specs.declared.cutter.Cutter.{Cutter}
 use Rattle.frame_cutter.specs.declared.stage.Stage.TheVariants.{Over}
 use Rattle.frame_cutter.specs.Stages.{roots_at}
-use Rattle.frame_cutter.specs.Standing.{DeskStands, IsUnderway}
+use Rattle.frame_cutter.specs.Standing.{CutterStands, IsUnderway}
 use Rattle.frame_cut.specs.Closed.{AllFetched, AreSpent}
 use Rattle.frame_cut.proofs.SeatLogs.{log_is, logs_of, notes_of}
 use Rattle.frame_cut.proofs.Together.{AreTogether, done_there, either_seat, seat_of}
@@ -30,20 +30,20 @@ no_log [] lane h = refl
 no_log (s ∷ seats) zero h = absurd (omega (arith, h))
 no_log (s ∷ seats) (suc lane) h = no_log seats lane (omega (arith, h))
 
-module _ (shop : Shop) (d : Desk) (ws : List Worker) (seats : List PoolSeat) (all : AreTogether shop d ws seats)
-    (read : List ℕ) (desk : DeskStands shop d read) (over : d.stage ≡ Over)
+module _ (shop : Shop) (d : Cutter) (ws : List Worker) (seats : List PoolSeat) (all : AreTogether shop d ws seats)
+    (read : List ℕ) (cutter : CutterStands shop d read) (over : d.stage ≡ Over)
     (done : All (λ (w : Worker). w.work ≡ Done) ws) where
-  no_pieces : desk.pieces ≡ []
-  no_pieces = (subst (λ s. IsUnderway s d read desk.handed desk.pieces) over desk.underway).1
+  no_pieces : cutter.pieces ≡ []
+  no_pieces = (subst (λ s. IsUnderway s d read cutter.handed cutter.pieces) over cutter.underway).1
 
   no_slices : d.slices.items ≡ []
   no_slices =
-      let many = desk.slices.many in let none = ap (λ (ps : List (List ℕ)). length ps) no_pieces in
+      let many = cutter.slices.many in let none = ap (λ (ps : List (List ℕ)). length ps) no_pieces in
       nil_from_length d.slices.items (omega (arith, many, none))
 
   cutter_counts : CountsNone (view_of d.seat)
   cutter_counts root =
-      let just = desk.counts root in
+      let just = cutter.counts root in
       let none : times root (roots_at d.stage d.slices.items) ≡ 0 =
       λ i. times root (roots_at (over i) (no_slices i)) in
       omega (arith, just, none)
@@ -65,14 +65,14 @@ module _ (shop : Shop) (d : Desk) (ws : List Worker) (seats : List PoolSeat) (al
             let w = there.0 in
             let stands = all.stand to w there.1 in
             let joins = all.joins to w there.1 in
-            let over_is = done_there shop d ws seats all read desk over done to w there.1 in
-            let sent = (sent_is shop d read desk over to w low stands over_is joins).count in
-            let taken = (taken_is shop d read desk over to w low stands over_is joins).count in
-            let many = as_many shop d read desk over to w low stands over_is joins in
+            let over_is = done_there shop d ws seats all read cutter over done to w there.1 in
+            let sent = (sent_is shop d read cutter over to w low stands over_is joins).count in
+            let taken = (taken_is shop d read cutter over to w low stands over_is joins).count in
+            let many = as_many shop d read cutter over to w low stands over_is joins in
             let log = ap (λ l. length (fetched (Mail d.workers to) l))
             (log_is seats to w.seat (seat_of shop d ws seats all to w there.1)) in
             omega (arith, sent, taken, many, log))
-        | inr high ↦ (let none = (desk.others to high).count in omega (arith, none))
+        | inr high ↦ (let none = (cutter.others to high).count in omega (arith, none))
       ]
 
   all_fetched : AllFetched (logs_of seats)

@@ -12,11 +12,11 @@ use Rattle.frame_hash.specs.declared.shop.Shop.{Shop}
 use Rattle.frame_hash.specs.declared.worker.Work.TheVariants.{Done}
 use Rattle.frame_hash.specs.declared.worker.Worker.{Worker}
 use Rattle.frame_hash.specs.Standing.{WorkerCame}
-use Rattle.frame_cutter.specs.declared.desk.Desk.{Desk}
+use Rattle.frame_cutter.specs.declared.cutter.Cutter.{Cutter}
 use Rattle.frame_cutter.specs.declared.stage.Stage.TheVariants.{Over}
 use Rattle.frame_cutter.specs.declared.stage.Verdict.{Verdict}
 use Rattle.frame_cutter.specs.declared.stage.Verdict.TheVariants.{Whole, Refused, Fault}
-use Rattle.frame_cutter.specs.Standing.{DeskCame, is_fault}
+use Rattle.frame_cutter.specs.Standing.{CutterCame, is_fault}
 use Rattle.frame_cut.specs.declared.closing.StreamEnd.{StreamEnd}
 use Rattle.frame_cut.specs.declared.openings.Opened.{Opened}
 use Rattle.frame_cut.specs.Closed.{AreSpent}
@@ -43,8 +43,8 @@ faulty (Refused why) h = absurd (h refl)
 faulty Fault h = refl
 
 module _ {S : Type 0} (left : S → Option (List ℕ)) (faults : S → ℕ) (shop : Shop) (workers block : ℕ) (o : Opened)
-    (opened : IsOpen workers block o) (same : IsShopOf shop o) (old new : S) (d : Desk)
-    (came : DeskCame left faults shop old new o.desk d) (ws : List Worker)
+    (opened : IsOpen workers block o) (same : IsShopOf shop o) (old new : S) (d : Cutter)
+    (came : CutterCame left faults shop old new o.cutter d) (ws : List Worker)
     (each : EachCame (WorkerCame shop) o.workers.items ws) (count : length ws ≡ length o.workers.items) where
   abbrev src : SourceSpan
   src = source_span left faults old new
@@ -81,7 +81,7 @@ module _ {S : Type 0} (left : S → Option (List ℕ)) (faults : S → ℕ) (sho
         told_closed : (r : Result A E) → OnOk r ((d.stage ≡ Over) × All (λ (w : Worker). w.work ≡ Done) ws)
             → (OnErr r ⊥) → AreWhole shape (parts_in seats) → HasTold told.verdict told block src
         told_closed (Ok a) f none whole =
-            told_of_stream left faults shop old new o.desk d came block opened.long f.0 told ws seats shape all
+            told_of_stream left faults shop old new o.cutter d came block opened.long f.0 told ws seats shape all
             f.1 whole hashes verdict.1
             verdict.0
         told_closed (Err e) f none whole = absurd none
@@ -91,7 +91,7 @@ module _ {S : Type 0} (left : S → Option (List ℕ)) (faults : S → ℕ) (sho
             → (is_fault told.verdict ≡ false → OnErr closed ⊥) → HasTold told.verdict told block src
         told_by (Ok b) well whole sound = told_closed ended finished well whole
         told_by (Err e) well whole sound =
-            told_fault left faults shop old new o.desk d came block opened.long told verdict.0
+            told_fault left faults shop old new o.cutter d came block opened.long told verdict.0
             (faulty told.verdict sound)
 
         -- what is answered
@@ -107,4 +107,4 @@ module _ {S : Type 0} (left : S → Option (List ℕ)) (faults : S → ℕ) (sho
         pub run_none : {G : Type 0} (answer : Result StreamEnd G) → OnErr answer (is_fault told.verdict ≡ false)
             → OnErr answer (faults new ≡ faults old)
         run_none (Ok a) none = tt
-        run_none (Err e) none = no_fault left faults shop old new o.desk d came block opened.long told verdict.0 none
+        run_none (Err e) none = no_fault left faults shop old new o.cutter d came block opened.long told verdict.0 none

@@ -18,32 +18,32 @@ use Rattle.frame_hash.specs.declared.worker.Worker.{Worker}
 use Rattle.frame_hash.specs.Hashes.{hash_of}
 use Rattle.frame_hash.specs.Takes.{WriteNothing}
 use Rattle.frame_hash.specs.Told.{joined, share_of, to_tell, told_of}
-use Rattle.frame_cutter.specs.declared.desk.Desk.{Desk}
+use Rattle.frame_cutter.specs.declared.cutter.Cutter.{Cutter}
 use Rattle.frame_cutter.specs.declared.stage.Stage.TheVariants.{Over}
 use Rattle.frame_cutter.specs.declared.stage.Verdict.TheVariants.{Whole}
-use Rattle.frame_cutter.specs.Standing.{DeskStands, HasVerdict, IsUnderway}
+use Rattle.frame_cutter.specs.Standing.{CutterStands, HasVerdict, IsUnderway}
 use Rattle.frame_cutter.proofs.FewFrames.{few_frames}
 use Rattle.frame_cut.specs.declared.closing.StreamEnd.{StreamEnd}
 use Rattle.frame_cut.specs.Tellings.{HasGot, Tells}
-use Rattle.frame_cut.proofs.Running.{desk_done, worker_done}
+use Rattle.frame_cut.proofs.Running.{cutter_done, worker_done}
 use Rattle.frame_cut.proofs.SeatLogs.{notes_of}
 use Rattle.frame_cut.proofs.ShareLaws.{told_at}
 use Rattle.frame_cut.proofs.WorkerEnds.{StandsThere, all_tell}
 
--- the seats of these workers and of the desk, each worker at its place, and what it got a front of what
+-- the seats of these workers and of the cutter, each worker at its place, and what it got a front of what
 -- was sent to it
-pub record AreTogether (shop : Shop) (d : Desk) (ws : List Worker) (seats : List PoolSeat) : Type 0 where
+pub record AreTogether (shop : Shop) (d : Cutter) (ws : List Worker) (seats : List PoolSeat) : Type 0 where
   pub seats_are : seats ≡ map (λ w. w.seat) ws ++ d.seat ∷ []
   pub many : length ws ≡ d.workers
   pub stand : (k : ℕ) (w : Worker) → slice_get ws k ≡ Some w → StandsThere shop d.workers k w
   pub joins : (k : ℕ) (w : Worker) → slice_get ws k ≡ Some w → HasGot d.ends.items k w.jobs
 
-module _ (shop : Shop) (d : Desk) (ws : List Worker) (seats : List PoolSeat)
+module _ (shop : Shop) (d : Cutter) (ws : List Worker) (seats : List PoolSeat)
     (all : AreTogether shop d ws seats) where
   front : length (map (λ (w : Worker). w.seat) ws) ≡ d.workers
   front = length-map ws (λ (w : Worker). w.seat) ∙ all.many
 
-  -- a worker's seat, and the desk's
+  -- a worker's seat, and the cutter's
   pub seat_of : (k : ℕ) (w : Worker) → slice_get ws k ≡ Some w → slice_get seats k ≡ Some w.seat
   seat_of k w e =
       ap (λ ss. slice_get ss k) all.seats_are
@@ -69,7 +69,7 @@ module _ (shop : Shop) (d : Desk) (ws : List Worker) (seats : List PoolSeat)
       last_seat zero at is = (omega (arith, at, front), cc is)
       last_seat (suc m) at is = absurd (cc is)
 
-  -- no seat but the desk's wrote
+  -- no seat but the cutter's wrote
   pub others_write : (lane : ℕ) (s : PoolSeat) → (lane ≡ d.workers → ⊥) → slice_get seats lane ≡ Some s
       → WriteNothing (notes_of s)
   others_write lane s ne e =
@@ -78,18 +78,18 @@ module _ (shop : Shop) (d : Desk) (ws : List Worker) (seats : List PoolSeat)
       (λ last. absurd (ne last.0)) (either_seat lane s e)
 
   -- all of them have nothing in hand
-  pub all_done : (read : List ℕ) → DeskStands shop d read → AreDone shop.pool.now seats
-  all_done read desk = record {
+  pub all_done : (read : List ℕ) → CutterStands shop d read → AreDone shop.pool.now seats
+  all_done read cutter = record {
     many =
         (let a = ap (λ (ss : List PoolSeat). length ss) all.seats_are in
         let b = length-append (map (λ (w : Worker). w.seat) ws) (d.seat ∷ []) in let c = front in
-        let e = desk.stands.lanes in omega (arith, a, b, c, e));
+        let e = cutter.stands.lanes in omega (arith, a, b, c, e));
     each = λ lane low e.
         (let s = get_or seats lane e in
         ⊎_elim (λ mine. subst (IsDone shop.pool.now lane) mine.2
         (worker_done shop d.workers lane mine.0 (all.stand lane mine.0 mine.1)))
         (λ last. subst (λ (x : ℕ × PoolSeat). IsDone shop.pool.now x.0 x.1) (λ i. (sym last.0 i, last.1 i))
-        (desk_done shop d read desk))
+        (cutter_done shop d read cutter))
         (either_seat lane s (slice_get-get_or seats lane e (within lane low))));
   }
     where
@@ -97,16 +97,16 @@ module _ (shop : Shop) (d : Desk) (ws : List Worker) (seats : List PoolSeat)
       within lane low =
           let a = ap (λ (ss : List PoolSeat). length ss) all.seats_are in
           let b = length-append (map (λ (w : Worker). w.seat) ws) (d.seat ∷ []) in let c = front in
-          let e = desk.stands.lanes in omega (arith, a, b, c, e, low)
+          let e = cutter.stands.lanes in omega (arith, a, b, c, e, low)
 
-  pub all_seats : (read : List ℕ) → DeskStands shop d read → All (IsPoolSeat shop.pool.now) seats
-  all_seats read desk lane e low =
+  pub all_seats : (read : List ℕ) → CutterStands shop d read → All (IsPoolSeat shop.pool.now) seats
+  all_seats read cutter lane e low =
       let s = get_or seats lane e in
       ⊎_elim (λ mine. subst (IsPoolSeat shop.pool.now) mine.2 (all.stand lane mine.0 mine.1).stands.works.seat)
-      (λ last. subst (IsPoolSeat shop.pool.now) last.1 desk.stands.works.seat)
+      (λ last. subst (IsPoolSeat shop.pool.now) last.1 cutter.stands.works.seat)
       (either_seat lane s (slice_get-get_or seats lane e low))
 
-  module _ (read : List ℕ) (desk : DeskStands shop d read) (over : d.stage ≡ Over)
+  module _ (read : List ℕ) (cutter : CutterStands shop d read) (over : d.stage ≡ Over)
       (done : All (λ (w : Worker). w.work ≡ Done) ws) where
     pub done_there : (k : ℕ) (w : Worker) → slice_get ws k ≡ Some w → w.work ≡ Done
     done_there k w e =
@@ -115,19 +115,19 @@ module _ (shop : Shop) (d : Desk) (ws : List Worker) (seats : List PoolSeat)
     module _ (shape : Shape) (whole : AreWhole shape (parts_in seats)) where
       -- what each worker told
       pub each_told : (k : ℕ) (w : Worker) → slice_get ws k ≡ Some w
-          → w.hashes.items ≡ to_tell (share_of d.workers k 0 desk.handed)
+          → w.hashes.items ≡ to_tell (share_of d.workers k 0 cutter.handed)
       each_told k w e =
           let within = slice_get_within ws k w e in
-          all_tell shop d read desk over k w (omega (arith, within, all.many)) (all.stand k w e) (done_there k w e)
+          all_tell shop d read cutter over k w (omega (arith, within, all.many)) (all.stand k w e) (done_there k w e)
           (all.joins k w e) shape seats whole cutter_seat others_write (seat_of k w e)
 
       module _ (told : StreamEnd) (hashes : told.hashes.items ≡ map (λ w. w.hashes) ws)
           (frames : told.frames ≡ d.frames)
           (sound : d.verdict ≡ Whole) where
-        verdict : HasVerdict Whole d read desk.handed
+        verdict : HasVerdict Whole d read cutter.handed
         verdict =
-            subst (λ v. HasVerdict v d read desk.handed) sound
-            (subst (λ s. IsUnderway s d read desk.handed desk.pieces) over desk.underway).0
+            subst (λ v. HasVerdict v d read cutter.handed) sound
+            (subst (λ s. IsUnderway s d read cutter.handed cutter.pieces) over cutter.underway).0
 
         many : length told.hashes.items ≡ d.workers
         many = ap (λ hs. length hs) hashes ∙ length-map ws (λ (w : Worker). w.hashes) ∙ all.many
@@ -137,8 +137,8 @@ module _ (shop : Shop) (d : Desk) (ws : List Worker) (seats : List PoolSeat)
             → HoldsAt (λ list. slice_get list.items (k / d.workers)
             ≡ Some (record { number = k; hash = hash_of frame })) told.hashes.items (k % d.workers)
         told_of_frame k frame e =
-            let at = map-get joined desk.handed k frame (ap (λ fs. slice_get fs k) (sym verdict.2) ∙ e) in
-            let low : k % d.workers < d.workers = mod-lt k desk.stands.some in
+            let at = map-get joined cutter.handed k frame (ap (λ fs. slice_get fs k) (sym verdict.2) ∙ e) in
+            let low : k % d.workers < d.workers = mod-lt k cutter.stands.some in
             let there = item-at ws (k % d.workers) (omega (arith, low, all.many)) in
             let w = there.0 in
             let items = each_told (k % d.workers) w there.1 in
@@ -147,7 +147,7 @@ module _ (shop : Shop) (d : Desk) (ws : List Worker) (seats : List PoolSeat)
             ∙ get-map (λ (x : Worker). x.hashes) ws (k % d.workers) w there.1 in
             let said : slice_get w.hashes.items (k / d.workers) ≡ Some (told_of k at.0) =
             ap (λ hs. slice_get hs (k / d.workers)) items
-            ∙ told_at d.workers desk.stands.some desk.handed k at.0 at.1 in
+            ∙ told_at d.workers cutter.stands.some cutter.handed k at.0 at.1 in
             let frame_is : ◌≡◌ {A = Option HashOf} (Some (told_of k at.0))
             (Some (record { number = k; hash = hash_of frame })) =
             ap (λ f. Some (record { number = k; hash = hash_of f })) at.2 in
@@ -157,10 +157,10 @@ module _ (shop : Shop) (d : Desk) (ws : List Worker) (seats : List PoolSeat)
 
         pub tells_all : Tells told (frames_of read)
         tells_all = record {
-          some = omega (arith, many, desk.stands.some);
+          some = omega (arith, many, cutter.stands.some);
           many =
-              (let a = desk.frames in let b = ap (λ fs. length fs) verdict.2 in
-              let c = length-map desk.handed joined in omega (arith, frames, a, b, c));
+              (let a = cutter.frames in let b = ap (λ fs. length fs) verdict.2 in
+              let c = length-map cutter.handed joined in omega (arith, frames, a, b, c));
           few = few_frames read;
           each = λ k frame e.
               subst (λ n. HoldsAt (λ list. slice_get list.items (k / n)

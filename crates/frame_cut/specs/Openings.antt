@@ -18,7 +18,7 @@ use Rattle.frame_core.specs.declared.limits.TheConstants.{MAX_FRAMES, MAX_STREAM
 use Rattle.frame_slices.specs.Slices.{HasCut}
 use Rattle.frame_hash.specs.declared.worker.Work.{Work}
 use Rattle.frame_hash.specs.declared.worker.Worker.{Worker}
-use Rattle.frame_cutter.specs.declared.desk.Desk.{Desk}
+use Rattle.frame_cutter.specs.declared.cutter.Cutter.{Cutter}
 use Rattle.frame_cutter.specs.declared.stage.Stage.{Stage}
 use Rattle.frame_cutter.specs.declared.stage.Verdict.{Verdict}
 use Rattle.frame_cutter.specs.declared.stage.TheConstants.{MOST_SLICES}
@@ -107,9 +107,9 @@ pub record AreHired
         × (slice_get receivers k ≡ Some jobs) × IsNewWorker cutter k seat jobs w))
 
 -- a cutter with this seat, these ends and rooms and blocks of this size, which did nothing yet
-pub record IsNewDesk
+pub record IsNewCutter
     (workers : ℕ) (seat : PoolSeat) (ends : List (Pass Job JobLog)) (rooms : List ℕ) (block : ℕ)
-    (class : ℕ) (d : Desk) : Type 0
+    (class : ℕ) (d : Cutter) : Type 0
   where
     pub seat_is : d.seat ≡ seat
     pub workers_are : d.workers ≡ workers

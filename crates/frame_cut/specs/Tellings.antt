@@ -15,7 +15,7 @@ use Rattle.frame_hash.specs.Hashes.{hash_of}
 use Rattle.frame_hash.specs.Standing.{WorkerStands}
 use Rattle.frame_cutter.specs.declared.stage.Verdict.{Verdict}
 use Rattle.frame_cutter.specs.declared.stage.Verdict.TheVariants.{Whole, Refused, Fault}
-use Rattle.frame_cutter.specs.Standing.{DeskStands}
+use Rattle.frame_cutter.specs.Standing.{CutterStands}
 use Rattle.frame_cut.specs.declared.closing.StreamEnd.{StreamEnd}
 use Rattle.frame_cut.specs.declared.openings.Opened.{Opened}
 use Rattle.frame_cut.specs.Outcomes.{IsRefused, IsWhole}
@@ -53,9 +53,9 @@ pub record IsHired (shop : Shop) (workers k : ℕ) (w : Worker) : Type 0 where
 -- a pool for so many workers, at which they and the cutter stand, with nothing read yet and a block
 -- of so many bytes
 pub record IsOpen (workers block : ℕ) (o : Opened) : Type 0 where
-  pub cutter : (shop : Shop) → IsShopOf shop o → DeskStands shop o.desk []
-  pub count : o.desk.workers ≡ workers
-  pub long : o.desk.block ≡ block
+  pub cutter : (shop : Shop) → IsShopOf shop o → CutterStands shop o.cutter []
+  pub count : o.cutter.workers ≡ workers
+  pub long : o.cutter.block ≡ block
   pub some : 0 < workers
   pub many : length o.workers.items ≡ workers
   pub hired : (shop : Shop) → IsShopOf shop o → (k : ℕ) (w : Worker) →
@@ -63,7 +63,7 @@ pub record IsOpen (workers block : ℕ) (o : Opened) : Type 0 where
   pub seats : (o.seats.items ≡ []) × (workers + 1 ≤ vec_capacity o.seats)
   pub told : (o.told.items ≡ []) × (workers ≤ vec_capacity o.told)
   -- nothing was read
-  pub begun : (o.desk.last ≡ false) × (o.desk.verdict ≡ Whole)
+  pub begun : (o.cutter.last ≡ false) × (o.cutter.verdict ≡ Whole)
 
 -- ---- How they end.
 

@@ -7,7 +7,7 @@ ghost use Rattle.frame_cut.specs.Tellings.{HasEnds, HasGot};
 ghost use Rattle.shared_pool.specs.Closing.{AreWhole};
 ghost use Rattle.shared_pool.specs.Seated.{AreDone, parts_in};
 
-use frame_cutter::{Desk, Verdict};
+use frame_cutter::{Cutter, Verdict};
 use frame_hash::{HashOf, Worker};
 use job_queue::{JobEnd, JobQueue, reunite};
 use shared_pool::{PoolSeat, SharedPool};
@@ -27,22 +27,22 @@ pub struct StreamEnd {
 pub fn gather(
     queues: &[JobQueue],
     mut workers: Vec<Worker>,
-    desk: Desk,
+    cutter: Cutter,
     seats: &mut Vec<PoolSeat>,
     mut hashes: Vec<Vec<HashOf>>,
 ) -> StreamEnd
     requires many { vec_len workers ≡ length queues.now }
     requires ends { (k : ℕ) (w : Worker) → slice_get workers.items k ≡ Some w →
-        HasEnds queues.now desk.ends.items k w.jobs }
+        HasEnds queues.now cutter.ends.items k w.jobs }
     requires seats { (seats.old.items ≡ []) × (vec_len workers + 1 ≤ vec_capacity seats.old) }
     requires room { (hashes.items ≡ []) × (vec_len workers ≤ vec_capacity hashes) }
-    ensures seats { seats.new.items ≡ map (λ w. w.seat) workers.items ++ desk.seat ∷ [] }
+    ensures seats { seats.new.items ≡ map (λ w. w.seat) workers.items ++ cutter.seat ∷ [] }
     ensures hashes { result.hashes.items ≡ map (λ w. w.hashes) workers.items }
-    ensures verdict { (result.verdict ≡ desk.verdict) × (result.frames ≡ desk.frames) }
+    ensures verdict { (result.verdict ≡ cutter.verdict) × (result.frames ≡ cutter.frames) }
     ensures jobs { (k : ℕ) (w : Worker) → slice_get workers.items k ≡ Some w →
-        HasGot desk.ends.items k w.jobs }
+        HasGot cutter.ends.items k w.jobs }
 {
-    let Desk {
+    let Cutter {
         alloc: _,
         seat: own,
         mut ends,
@@ -59,7 +59,7 @@ pub fn gather(
         rooms: _,
         slices: _,
         stage: _,
-    } = desk;
+    } = cutter;
     for number in 0..workers.len() {
         let (seat, jobs, told) = parts(workers.remove(0));
         reunite(&queues[number], &mut ends[number], jobs);

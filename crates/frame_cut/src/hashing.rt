@@ -11,13 +11,13 @@ ghost use Rattle.frame_hash.specs.declared.worker.Work.{Work};
 ghost use Rattle.frame_hash.specs.Standing.{WorkerCame, WorkerStands};
 ghost use Rattle.frame_cutter.specs.declared.stage.Stage.{Stage};
 ghost use Rattle.frame_cutter.specs.declared.stage.Verdict.{Verdict};
-ghost use Rattle.frame_cutter.specs.Standing.{DeskCame, DeskStands, is_fault};
+ghost use Rattle.frame_cutter.specs.Standing.{CutterCame, CutterStands, is_fault};
 ghost use Rattle.frame_cut.specs.Closed.{AreSpent, NoneIsLive};
 ghost use Rattle.frame_cut.specs.Tellings.{HasTold};
 
 use crate::closing::{StreamEnd, close, gather};
 use crate::openings::{Opened, open};
-use frame_cutter::{Cutting, Desk, Verdict};
+use frame_cutter::{Cutter, Cutting, Verdict};
 use frame_hash::{Shop, Worker};
 use frame_words::CutOptions;
 use shared_pool::{PoolSeat, SharedPool};
@@ -44,7 +44,7 @@ pub fn hash_stream<R: Threads + Wait + Sync, S: Source>(
         pool,
         queues,
         workers,
-        desk,
+        cutter,
         mut seats,
         told,
     } = open(alloc, options)?;
@@ -52,8 +52,8 @@ pub fn hash_stream<R: Threads + Wait + Sync, S: Source>(
         pool: &pool,
         queues: &queues,
     };
-    let (desk, workers, ended) = step_all(rt, alloc, &shop, source, desk, workers);
-    let told = gather(&queues, workers, desk, &mut seats, told);
+    let (cutter, workers, ended) = step_all(rt, alloc, &shop, source, cutter, workers);
+    let told = gather(&queues, workers, cutter, &mut seats, told);
     let closed = close_or_abandon(rt, alloc, pool, seats, ended);
     told_or_none(told, closed)
 }
@@ -64,26 +64,29 @@ fn step_all<R: Threads + Wait + Sync, S: Source>(
     alloc: Global,
     shop: &Shop,
     source: &mut S,
-    mut desk: Desk,
+    mut cutter: Cutter,
     workers: Vec<Worker>,
-) -> (Desk, Vec<Worker>, Result<(), AllocError>)
-    requires desk { DeskStands shop.now desk [] }
-    requires begun { (desk.last ≡ false) × (desk.verdict ≡ Verdict.Whole) }
+) -> (Cutter, Vec<Worker>, Result<(), AllocError>)
+    requires cutter { CutterStands shop.now cutter [] }
+    requires begun { (cutter.last ≡ false) × (cutter.verdict ≡ Verdict.Whole) }
     requires workers { All (WorkerStands shop.now) workers.items }
-    ensures desk { DeskCame S.left S.faults shop.now source.old source.new desk result.0 }
+    ensures cutter { CutterCame S.left S.faults shop.now source.old source.new cutter result.0 }
     ensures workers { EachCame (WorkerCame shop.now) workers.items result.1.items }
     ensures count { vec_len result.1 ≡ vec_len workers }
     ensures finished { OnOk result.2 ((result.0.stage ≡ Stage.Over)
         × All (λ w. w.work ≡ Work.Done) result.1.items) }
 {
-    let threads = desk.workers.saturating_add(1);
+    let threads = cutter.workers.saturating_add(1);
     let mut cutting = Cutting {
         source,
-        desk: &mut desk,
+        cutter: &mut cutter,
     };
     let (workers, ended) = step_beside(rt, alloc, shop, &mut cutting, workers, threads);
-    let Cutting { source: _, desk: _ } = cutting;
-    (desk, workers, ended)
+    let Cutting {
+        source: _,
+        cutter: _,
+    } = cutting;
+    (cutter, workers, ended)
 }
 
 // Closes the pool where all have finished. Else its memory stays taken.

@@ -4,11 +4,11 @@ ghost use Rattle.std.specs.Prelude.{◌≡◌, ℕ, ◌+◌, ◌*◌, ◌<◌, �
 ghost use Rattle.size_classes.specs.Sizes.{class_of, of_pages};
 ghost use Rattle.size_classes.specs.declared.TheConstants.{DEFAULT_PAGE};
 ghost use Rattle.frame_words.specs.Words.{AreOptions};
-ghost use Rattle.frame_cut.specs.Openings.{AreHired, AreLines, IsNewDesk, IsNewPool, IsNewWorker, layout_of, room_of};
+ghost use Rattle.frame_cut.specs.Openings.{AreHired, AreLines, IsNewCutter, IsNewPool, IsNewWorker, layout_of, room_of};
 ghost use Rattle.frame_cut.specs.Tellings.{IsOpen};
 
 use frame_core::{MAX_FRAMES, MAX_STREAM};
-use frame_cutter::{Desk, MOST_SLICES, Stage, Verdict};
+use frame_cutter::{Cutter, MOST_SLICES, Stage, Verdict};
 use frame_hash::{HashOf, Work, Worker};
 use frame_slices::Slicer;
 use frame_words::CutOptions;
@@ -42,7 +42,7 @@ pub struct Opened {
     pub pool: SharedPool,
     pub queues: Vec<JobQueue>,
     pub workers: Vec<Worker>,
-    pub desk: Desk,
+    pub cutter: Cutter,
     /// The vector in which the seats came.
     pub seats: Vec<PoolSeat>,
     /// Room for what each worker tells.
@@ -70,7 +70,7 @@ pub fn open(alloc: Global, options: CutOptions) -> Result<Opened, AllocError>
             } = lines;
             let workers = hire(alloc, options.workers, &mut seats, receivers, workers);
             let seat = seats.remove(0);
-            let desk = new_desk(
+            let cutter = new_cutter(
                 alloc,
                 options.workers,
                 seat,
@@ -83,7 +83,7 @@ pub fn open(alloc: Global, options: CutOptions) -> Result<Opened, AllocError>
                 pool,
                 queues,
                 workers,
-                desk,
+                cutter,
                 seats,
                 told,
             })
@@ -234,7 +234,7 @@ fn new_worker(alloc: Global, cutter: u32, number: u32, seat: PoolSeat, jobs: Job
 }
 
 // A cutter that has read nothing yet.
-fn new_desk(
+fn new_cutter(
     alloc: Global,
     workers: u32,
     seat: PoolSeat,
@@ -242,10 +242,10 @@ fn new_desk(
     rooms: Vec<u32>,
     block: u32,
     class: u32,
-) -> Desk
-    ensures { IsNewDesk workers seat ends.items rooms.items block class result }
+) -> Cutter
+    ensures { IsNewCutter workers seat ends.items rooms.items block class result }
 {
-    Desk {
+    Cutter {
         alloc,
         seat,
         workers,

@@ -1,4 +1,4 @@
--- How often roots are in lists, and what a desk counts behind one more and one less.
+-- How often roots are in lists, and what a cutter counts behind one more and one less.
 use Rattle.std.proofs.Common.{◌≡◌, ◌+◌, List, [], ◌∷◌, ◌++◌, Bool, arith, Some}
 use Rattle.std.proofs.lemmas.List.Sums.{sum_by-append}
 use Rattle.pool_law.specs.declared.id.RootId.{RootId}

@@ -1,4 +1,4 @@
--- A desk that cuts its block: where it stands, and what comes once the block is cut.
+-- A cutter that cuts its block: where it stands, and what comes once the block is cut.
 use Rattle.std.proofs.Common.{◌≡◌, ℕ, suc, ◌+◌, ◌-◌, ◌*◌, ◌≤◌, Bool, true, false, List, [], ◌∷◌, ◌++◌, length, map, take, refl, ap, subst, sym, ◌∙◌, arith, Option, Some, None}
 use Rattle.std.specs.Global.{Vec}
 use Rattle.std.proofs.lemmas.List.{drop_all, length-append}
@@ -19,17 +19,17 @@ use Rattle.frame_hash.specs.Told.{joined}
 use Rattle.frame_hash.specs.declared.turns.TheConstants.{RELEASE_TURNS}
 use Rattle.frame_slices.specs.declared.slicer.Found.{Found}
 use Rattle.frame_slices.specs.Slices.{HasCut}
-use Rattle.frame_cutter.specs.declared.desk.Desk.{Desk}
+use Rattle.frame_cutter.specs.declared.cutter.Cutter.{Cutter}
 use Rattle.frame_cutter.specs.declared.stage.Stage.{Stage}
 use Rattle.frame_cutter.specs.declared.stage.Stage.TheVariants.{Filling, Cutting, LettingGo}
 use Rattle.frame_cutter.specs.declared.stage.Verdict.{Verdict}
 use Rattle.frame_cutter.specs.Finds.{GoThrough}
 use Rattle.frame_cutter.specs.Sends.{AreSlices}
 use Rattle.frame_cutter.specs.Stages.{ends_at, gone_of, roots_at}
-use Rattle.frame_cutter.specs.Standing.{CountsJust, DeskStands, HasVerdict, IsUnderway, verdict_of}
+use Rattle.frame_cutter.specs.Standing.{CountsJust, CutterStands, HasVerdict, IsUnderway, verdict_of}
 use Rattle.frame_cutter.specs.Stops.{AreBlocks}
 use Rattle.frame_cutter.proofs.CountLaws.{counts_there, less_first}
-use Rattle.frame_cutter.proofs.DeskLaws.{ended_so}
+use Rattle.frame_cutter.proofs.CutterLaws.{ended_so}
 use Rattle.frame_cutter.proofs.MovedLaws.{KeepsTold, moved, moved_to}
 use Rattle.frame_cutter.proofs.SeatLaws.{HasGone, gone_none, gone_quiet, slices_then}
 
@@ -51,7 +51,7 @@ one-more block before part are size =
 
 -- ---- Where it stands.
 
-module _ (shop : Shop) (d : Desk) (read : List ℕ) (st : DeskStands shop d read) (root : RootId) (used : ℕ)
+module _ (shop : Shop) (d : Cutter) (read : List ℕ) (st : CutterStands shop d read) (root : RootId) (used : ℕ)
     (cutting : d.stage ≡ Cutting root used) where
   pub cutting_at : IsUnderway (Cutting root used) d read st.handed st.pieces
   cutting_at = subst (λ (s : Stage). IsUnderway s d read st.handed st.pieces) cutting st.underway
@@ -112,7 +112,7 @@ module _ (shop : Shop) (d : Desk) (read : List ℕ) (st : DeskStands shop d read
 
     -- the block isn't the last
     pub leaves : d.last ≡ false
-        → DeskStands shop
+        → CutterStands shop
         (moved_to d seat (d.turns - RELEASE_TURNS) d.moves d.finds d.last d.slicer d.slices Filling d.verdict) read
     leaves more =
         let at = cutting_at in
@@ -129,12 +129,12 @@ module _ (shop : Shop) (d : Desk) (read : List ℕ) (st : DeskStands shop d read
     -- the block is the last
     pub leaves_last : (verdict : Verdict) → d.last ≡ true
         → ((bytes own : List ℕ) → HasCut d.slicer bytes own → verdict ≡ verdict_of (failure_of bytes))
-        → DeskStands shop
+        → CutterStands shop
         (moved_to d seat (d.turns - RELEASE_TURNS) d.moves d.finds d.last d.slicer d.slices LettingGo verdict) read
     leaves_last verdict end told =
         let at = cutting_at in
         let inside = at.2.0 in
-        let e : Desk =
+        let e : Cutter =
         moved_to d seat (d.turns - RELEASE_TURNS) d.moves d.finds d.last d.slicer d.slices LettingGo verdict in
         moved shop d read st seat (d.turns - RELEASE_TURNS) d.moves d.finds d.last d.slicer d.slices LettingGo verdict
         st.pieces went (keeps_told LettingGo refl (λ worker. refl)) read still (omega arith)
@@ -153,7 +153,7 @@ module _ (shop : Shop) (d : Desk) (read : List ℕ) (st : DeskStands shop d read
 
   -- there is room for one slice more
   pub reserved : (slices : Vec ViewData) → slices.items ≡ d.slices.items
-      → DeskStands shop
+      → CutterStands shop
       (moved_to d d.seat d.turns d.moves d.finds d.last d.slicer slices d.stage d.verdict) read
   reserved slices items =
       let at = cutting_at in

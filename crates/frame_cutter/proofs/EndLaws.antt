@@ -19,16 +19,16 @@ use Rattle.frame_core.specs.declared.frame.FrameNo.{FrameNo}
 use Rattle.frame_core.specs.declared.frame.FrameNo.TheVariants as nos
 use Rattle.frame_hash.specs.declared.shop.Shop.{Shop}
 use Rattle.frame_hash.specs.declared.turns.TheConstants.{RELEASE_TURNS}
-use Rattle.frame_cutter.specs.declared.desk.Desk.{Desk}
+use Rattle.frame_cutter.specs.declared.cutter.Cutter.{Cutter}
 use Rattle.frame_cutter.specs.declared.stage.Stage.TheVariants.{LettingGo, Ending, Over}
 use Rattle.frame_cutter.specs.declared.stage.Verdict.{Verdict}
 use Rattle.frame_cutter.specs.declared.stage.Verdict.TheVariants.{Whole, Refused, Fault}
 use Rattle.frame_cutter.specs.Sends.{AreSlices}
 use Rattle.frame_cutter.specs.Stages.{roots_at}
-use Rattle.frame_cutter.specs.Standing.{CountsJust, DeskStands, HasVerdict, IsMet, IsUnderway}
+use Rattle.frame_cutter.specs.Standing.{CountsJust, CutterStands, HasVerdict, IsMet, IsUnderway}
 use Rattle.frame_cutter.specs.Stops.{StopsWithin}
 use Rattle.frame_cutter.proofs.CountLaws.{counts_there, times-on}
-use Rattle.frame_cutter.proofs.DeskLaws.{keeps_told, letting_go-plain}
+use Rattle.frame_cutter.proofs.CutterLaws.{keeps_told, letting_go-plain}
 use Rattle.frame_cutter.proofs.MovedLaws.{KeepsTold, moved, moved_to}
 use Rattle.frame_cutter.proofs.SeatLaws.{ChangesTo, HasGone, gone_none, gone_quiet, slices_then}
 
@@ -59,15 +59,15 @@ less_last : (root : RootId) (roots : List RootId) (last : Bool)
     → ChangesTo (once_less root last) (roots ++ root ∷ []) roots
 less_last root roots last q = let a = times-on q roots (root ∷ []) in omega (arith, a)
 
--- ---- What a stream came to, whatever else the desk does.
+-- ---- What a stream came to, whatever else the cutter does.
 
-met_same : (why : FrameNo) (d e : Desk) → e.last ≡ d.last → IsMet why d → IsMet why e
+met_same : (why : FrameNo) (d e : Cutter) → e.last ≡ d.last → IsMet why d → IsMet why e
 met_same (nos.Inside number) d e same met = same ∙ met
 met_same (nos.Length number) d e same met = tt
 met_same nos.Frames d e same met = tt
 met_same nos.Stream d e same met = tt
 
-module _ (d e : Desk) (same : e.last ≡ d.last) (block : e.block ≡ d.block) (read : List ℕ)
+module _ (d e : Cutter) (same : e.last ≡ d.last) (block : e.block ≡ d.block) (read : List ℕ)
     (handed : List (List (List ℕ))) where
   pub verdict_same : (v : Verdict) → HasVerdict v d read handed → HasVerdict v e read handed
   verdict_same Whole is = (same ∙ is.0, is.1, is.2)
@@ -80,7 +80,7 @@ module _ (d e : Desk) (same : e.last ≡ d.last) (block : e.block ≡ d.block) (
 
 -- ---- A slice is let go, or none is left.
 
-module _ (shop : Shop) (d : Desk) (read : List ℕ) (st : DeskStands shop d read) (letting : d.stage ≡ LettingGo)
+module _ (shop : Shop) (d : Cutter) (read : List ℕ) (st : CutterStands shop d read) (letting : d.stage ≡ LettingGo)
     (popped : Vec ViewData) where
   -- the turns that are left behind it
   abbrev left : ℕ
@@ -109,9 +109,9 @@ module _ (shop : Shop) (d : Desk) (read : List ℕ) (st : DeskStands shop d read
     pub lets_go : (seat : PoolSeat) (last : Bool) → RELEASE_TURNS ≤ d.turns
         → Proceeds shop.pool.now empty_hand RELEASE_TURNS 0 (once_less slice.root last) d.seat seat
         → IsLater shop.pool.now d.seat seat
-        → DeskStands shop (moved_to d seat left d.moves d.finds d.last d.slicer popped d.stage d.verdict) read
+        → CutterStands shop (moved_to d seat left d.moves d.finds d.last d.slicer popped d.stage d.verdict) read
     lets_go seat last enough proceeds later =
-        subst (λ s. DeskStands shop
+        subst (λ s. CutterStands shop
         (moved_to d seat left d.moves d.finds d.last d.slicer popped s d.verdict) read) (sym letting)
         (moved shop d read st seat left d.moves d.finds d.last d.slicer popped LettingGo d.verdict
         (take (length popped.items) st.pieces) went lets-told read
@@ -149,7 +149,7 @@ module _ (shop : Shop) (d : Desk) (read : List ℕ) (st : DeskStands shop d read
     same_items : popped.items ≡ d.slices.items
     same_items = same ∙ sym none
 
-    pub none_left : DeskStands shop
+    pub none_left : CutterStands shop
         (moved_to d d.seat d.turns d.moves d.finds d.last d.slicer popped (Ending 0) d.verdict) read
     none_left =
         moved shop d read st d.seat d.turns d.moves d.finds d.last d.slicer popped (Ending 0) d.verdict st.pieces
@@ -168,7 +168,7 @@ module _ (shop : Shop) (d : Desk) (read : List ℕ) (st : DeskStands shop d read
 
 -- ---- All workers are told.
 
-module _ (shop : Shop) (d : Desk) (read : List ℕ) (st : DeskStands shop d read) (next : ℕ)
+module _ (shop : Shop) (d : Cutter) (read : List ℕ) (st : CutterStands shop d read) (next : ℕ)
     (ending : d.stage ≡ Ending next) where
   ending-is : IsUnderway (Ending next) d read st.handed st.pieces
   ending-is = subst (λ s. IsUnderway s d read st.handed st.pieces) ending st.underway
@@ -182,7 +182,7 @@ module _ (shop : Shop) (d : Desk) (read : List ℕ) (st : DeskStands shop d read
           ap (λ (b : Bool). if b then End ∷ [] else []) (lt-ltb worker next (omega (arith, below, all)));
     })
 
-    pub over : DeskStands shop (record d { stage = Over }) read
+    pub over : CutterStands shop (record d { stage = Over }) read
     over =
         moved shop d read st d.seat d.turns d.moves d.finds d.last d.slicer d.slices Over d.verdict st.pieces
         (gone_none shop.pool.now d.workers d.turns d.moves (roots_at Over d.slices.items) d.seat st.stands.works

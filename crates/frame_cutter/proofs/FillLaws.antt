@@ -29,7 +29,7 @@ use Rattle.frame_hash.specs.Told.{joined}
 use Rattle.frame_hash.proofs.QuietLaws.{post_nothing_on, quiet_posts}
 use Rattle.frame_slices.specs.declared.slicer.Found.{Found}
 use Rattle.frame_slices.specs.declared.slicer.Slicer.{Slicer}
-use Rattle.frame_cutter.specs.declared.desk.Desk.{Desk}
+use Rattle.frame_cutter.specs.declared.cutter.Cutter.{Cutter}
 use Rattle.frame_cutter.specs.declared.filling.TheConstants.{FILL_TURNS}
 use Rattle.frame_cutter.specs.declared.stage.Stage.{Stage}
 use Rattle.frame_cutter.specs.declared.stage.Stage.TheVariants.{Filling, Cutting, LettingGo}
@@ -38,9 +38,9 @@ use Rattle.frame_cutter.specs.declared.stage.Verdict.TheVariants.{Refused}
 use Rattle.frame_cutter.specs.Finds.{GoThrough}
 use Rattle.frame_cutter.specs.Sends.{WriteFresh, Writes}
 use Rattle.frame_cutter.specs.Stages.{roots_at}
-use Rattle.frame_cutter.specs.Standing.{CountsJust, DeskStands, HasVerdict, IsAt, IsBetween, IsInRoot, IsMet, IsUnderway}
+use Rattle.frame_cutter.specs.Standing.{CountsJust, CutterStands, HasVerdict, IsAt, IsBetween, IsInRoot, IsMet, IsUnderway}
 use Rattle.frame_cutter.proofs.CountLaws.{less_first}
-use Rattle.frame_cutter.proofs.DeskLaws.{IsPlain, filling-plain, keeps_told, letting_go-plain}
+use Rattle.frame_cutter.proofs.CutterLaws.{IsPlain, filling-plain, keeps_told, letting_go-plain}
 use Rattle.frame_cutter.proofs.FreshLaws.{fresh_written, quiet_none}
 use Rattle.frame_cutter.proofs.MovedLaws.{KeepsTold, moved, moved_to}
 use Rattle.frame_cutter.proofs.NoteLaws.{stays_posts}
@@ -56,15 +56,15 @@ not-inside (Some nos.Frames) number e = cc e
 not-inside (Some nos.Stream) number e = cc e
 not-inside (Some (nos.Inside other)) number e = cc e
 
-met-by : (failure : Option FrameNo) (why : FrameNo) (d : Desk) → refusal failure ≡ Some why → IsMet why d
+met-by : (failure : Option FrameNo) (why : FrameNo) (d : Cutter) → refusal failure ≡ Some why → IsMet why d
 met-by failure (nos.Inside number) d e = absurd (not-inside failure number e)
 met-by failure (nos.Length number) d e = tt
 met-by failure nos.Frames d e = tt
 met-by failure nos.Stream d e = tt
 
--- ---- A desk that is to read its next block.
+-- ---- A cutter that is to read its next block.
 
-module _ (shop : Shop) (d : Desk) (read : List ℕ) (st : DeskStands shop d read) (filling : d.stage ≡ Filling) where
+module _ (shop : Shop) (d : Cutter) (read : List ℕ) (st : CutterStands shop d read) (filling : d.stage ≡ Filling) where
   -- the turns that are left behind it
   abbrev left : ℕ
   left = d.turns - FILL_TURNS
@@ -85,9 +85,9 @@ module _ (shop : Shop) (d : Desk) (read : List ℕ) (st : DeskStands shop d read
       (record { before = refl; behind = refl; ends = λ worker below. refl })
 
   -- another list of finds, none of which counts yet
-  pub with_finds : (finds : Vec Found) → DeskStands shop (record d { finds = finds }) read
+  pub with_finds : (finds : Vec Found) → CutterStands shop (record d { finds = finds }) read
   with_finds finds =
-      subst (λ s. DeskStands shop
+      subst (λ s. CutterStands shop
       (moved_to d d.seat d.turns d.moves finds d.last d.slicer d.slices s d.verdict) read) (sym filling)
       (let b = reading.1 in
       moved shop d read st d.seat d.turns d.moves finds d.last d.slicer d.slices Filling d.verdict st.pieces
@@ -100,9 +100,9 @@ module _ (shop : Shop) (d : Desk) (read : List ℕ) (st : DeskStands shop d read
     -- no root was to be had
     pub waits : (why : AllocNo) → IsLater shop.pool.now d.seat mid
         → Proceeds shop.pool.now empty_hand 6 0 (refused why) d.seat mid
-        → DeskStands shop (moved_to d mid left d.moves finds d.last d.slicer d.slices d.stage d.verdict) read
+        → CutterStands shop (moved_to d mid left d.moves finds d.last d.slicer d.slices d.stage d.verdict) read
     waits why later proceeds =
-        subst (λ s. DeskStands shop
+        subst (λ s. CutterStands shop
         (moved_to d mid left d.moves finds d.last d.slicer d.slices s d.verdict) read) (sym filling)
         (let b = reading.1 in
         let went =
@@ -195,10 +195,10 @@ module _ (shop : Shop) (d : Desk) (read : List ℕ) (st : DeskStands shop d read
       module _ (bytes rest : List ℕ) (last : Bool) (block_is : block ≡ bytes ++ rest) (few : length bytes ≤ d.block)
           (full : last ≡ false → length bytes ≡ d.block) (whole : root.capacity ≡ d.block)
           (goes : GoThrough finds.items bytes 0 read (joined st.pieces) slicer) where
-        abbrev placed_desk : Desk
-        placed_desk = moved_to d new left d.moves finds last slicer d.slices (Cutting root 0) d.verdict
+        abbrev placed_cutter : Cutter
+        placed_cutter = moved_to d new left d.moves finds last slicer d.slices (Cutting root 0) d.verdict
 
-        in-root : IsInRoot placed_desk read bytes (read ++ bytes) root
+        in-root : IsInRoot placed_cutter read bytes (read ++ bytes) root
         in-root = record {
           read_is = refl;
           blocks = reading.3;
@@ -220,12 +220,12 @@ module _ (shop : Shop) (d : Desk) (read : List ℕ) (st : DeskStands shop d read
               (sym (append-nil read)) goes;
         }
 
-        between : IsBetween placed_desk (read ++ take 0 bytes) st.handed st.pieces
+        between : IsBetween placed_cutter (read ++ take 0 bytes) st.handed st.pieces
         between =
-            subst (λ (gone : List ℕ). IsBetween placed_desk gone st.handed st.pieces) (sym (append-nil read))
+            subst (λ (gone : List ℕ). IsBetween placed_cutter gone st.handed st.pieces) (sym (append-nil read))
             (let b = reading.1 in record { frames = b.frames; healthy = b.healthy })
 
-        pub placed : DeskStands shop placed_desk (read ++ bytes)
+        pub placed : CutterStands shop placed_cutter (read ++ bytes)
         placed =
             moved shop d read st new left d.moves finds last slicer d.slices (Cutting root 0) d.verdict
             st.pieces went (cuts-told root) (read ++ bytes)
@@ -249,12 +249,12 @@ module _ (shop : Shop) (d : Desk) (read : List ℕ) (st : DeskStands shop d read
             (once_less root once) new end went.works went.lane let_go (omega (arith, enough)) (omega arith) roots others
             (less_first root others once) went.counts went.fresh later)
 
-        abbrev pub stopped_desk : Desk
-        stopped_desk =
+        abbrev pub stopped_cutter : Cutter
+        stopped_cutter =
             moved_to d end (left - RELEASE_TURNS) d.moves finds d.last slicer d.slices LettingGo verdict
 
-        pub stopped : (more : List ℕ) → HasVerdict verdict stopped_desk more st.handed
-            → DeskStands shop stopped_desk more
+        pub stopped : (more : List ℕ) → HasVerdict verdict stopped_cutter more st.handed
+            → CutterStands shop stopped_cutter more
         stopped more has =
             moved shop d read st end (left - RELEASE_TURNS) d.moves finds d.last slicer d.slices LettingGo verdict
             st.pieces gone (tells-none LettingGo letting_go-plain) more
@@ -263,7 +263,7 @@ module _ (shop : Shop) (d : Desk) (read : List ℕ) (st : DeskStands shop d read
             (omega arith) has
 
   -- a refusal is met in the block that came
-  pub refuses : (e : Desk) (bytes : List ℕ) (why : FrameNo) → e.block ≡ d.block → length bytes ≤ d.block
+  pub refuses : (e : Cutter) (bytes : List ℕ) (why : FrameNo) → e.block ≡ d.block → length bytes ≤ d.block
       → refusal (failure_of (read ++ bytes)) ≡ Some why → HasVerdict (Refused why) e (read ++ bytes) st.handed
   refuses e bytes why same few met = (
     met-by (failure_of (read ++ bytes)) why e met,

@@ -1,4 +1,4 @@
--- A desk that hands its frame over: all slices went, and the job goes behind them.
+-- A cutter that hands its frame over: all slices went, and the job goes behind them.
 use Rattle.std.proofs.Common.{◌≡◌, ℕ, ◌+◌, ◌<◌, ◌≤◌, ◌≢◌, Bool, List, [], ◌∷◌, ◌++◌, length, map, get_or, take, set, eqb, eq-eqb, ne_eqb, refl, sym, ap, subst, ◌∙◌, arith, Some, append-nil, length-append}
 use Rattle.std.specs.Prelude.{◌%◌, if◌then◌else◌, HoldsAt}
 use Rattle.std.specs.Global.{Vec}
@@ -15,13 +15,13 @@ use Rattle.shared_pool.specs.SeatViews.{view_of}
 use Rattle.frame_core.specs.declared.limits.TheConstants.{MAX_FRAMES}
 use Rattle.frame_hash.specs.declared.shop.Shop.{Shop}
 use Rattle.frame_hash.specs.Told.{jobs_of, joined, pieces_of, share_of}
-use Rattle.frame_cutter.specs.declared.desk.Desk.{Desk}
+use Rattle.frame_cutter.specs.declared.cutter.Cutter.{Cutter}
 use Rattle.frame_cutter.specs.declared.stage.Stage.{Stage}
 use Rattle.frame_cutter.specs.declared.stage.Stage.TheVariants.{Cutting, Handing}
 use Rattle.frame_cutter.specs.declared.stage.TheConstants.{MOST_SLICES}
 use Rattle.frame_cutter.specs.Sends.{AreSlices, HasSent}
 use Rattle.frame_cutter.specs.Stages.{jobs_at, pieces_at, roots_at}
-use Rattle.frame_cutter.specs.Standing.{CountsJust, DeskStands, IsUnderway}
+use Rattle.frame_cutter.specs.Standing.{CountsJust, CutterStands, IsUnderway}
 use Rattle.frame_hash.proofs.QuietLaws.{none-either}
 use Rattle.frame_cutter.proofs.FewFrames.{few_frames}
 use Rattle.frame_cutter.proofs.PostLaws.{handing_at}
@@ -29,7 +29,7 @@ use Rattle.frame_cutter.proofs.PushLaws.{HasEnd, ends_put}
 use Rattle.frame_cutter.proofs.SentLaws.{posts_sent}
 use Rattle.frame_cutter.proofs.ShareLaws.{handed_as, if_so, jobs_on, jobs_one, pieces_on, pieces_one, share_push}
 
-module _ (shop : Shop) (d : Desk) (read : List ℕ) (st : DeskStands shop d read) (root : RootId)
+module _ (shop : Shop) (d : Cutter) (read : List ℕ) (st : CutterStands shop d read) (root : RootId)
     (used gone : ℕ) (handing : d.stage ≡ Handing root used gone) where
   at : IsUnderway (Handing root used gone) d read st.handed st.pieces
   at = handing_at shop d read st root used gone handing
@@ -116,7 +116,7 @@ module _ (shop : Shop) (d : Desk) (read : List ℕ) (st : DeskStands shop d read
           }))
 
       -- the queue was full
-      pub hands_none : (view end).sent ≡ (view was).sent → DeskStands shop (record d { ends = ends }) read
+      pub hands_none : (view end).sent ≡ (view was).sent → CutterStands shop (record d { ends = ends }) read
       hands_none sent =
           let b = st.block in
           let inside = at.2.0 in
@@ -222,7 +222,7 @@ module _ (shop : Shop) (d : Desk) (read : List ℕ) (st : DeskStands shop d read
           sym (jobs_then w ∙ none) ∙ sym (append-nil (jobs_of (share_of d.workers w 0 hs)))
 
       pub hands_job : (slices : Vec ViewData) → slices.items ≡ [] → (view end).sent ≡ (view was).sent ++ job ∷ []
-          → DeskStands shop
+          → CutterStands shop
           (record d { ends = ends; frames = d.frames + 1; slices = slices; stage = Cutting root used }) read
       hands_job slices none sent =
           let b = st.block in

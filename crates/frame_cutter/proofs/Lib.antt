@@ -1,5 +1,5 @@
 pub mod NoteLaws
-pub mod DeskLaws
+pub mod CutterLaws
 pub mod ShareLaws
 pub mod FewFrames
 pub mod FreshLaws

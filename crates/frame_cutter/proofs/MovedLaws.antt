@@ -1,4 +1,4 @@
--- A desk whose seat went on without a post, and that told no worker more.
+-- A cutter whose seat went on without a post, and that told no worker more.
 use Rattle.std.proofs.Common.{◌≡◌, ℕ, ◌+◌, ◌<◌, ◌≤◌, Bool, List, [], ◌++◌, length, take, refl, sym, ap, subst, ◌∙◌, arith, Some}
 use Rattle.std.specs.Prelude.{◌%◌, ◌==◌, if◌then◌else◌}
 use Rattle.std.specs.Global.{Vec}
@@ -10,17 +10,17 @@ use Rattle.frame_hash.specs.declared.shop.Shop.{Shop}
 use Rattle.frame_hash.specs.Told.{jobs_of, pieces_of, share_of}
 use Rattle.frame_slices.specs.declared.slicer.Found.{Found}
 use Rattle.frame_slices.specs.declared.slicer.Slicer.{Slicer}
-use Rattle.frame_cutter.specs.declared.desk.Desk.{Desk}
+use Rattle.frame_cutter.specs.declared.cutter.Cutter.{Cutter}
 use Rattle.frame_cutter.specs.declared.stage.Stage.{Stage}
 use Rattle.frame_cutter.specs.declared.stage.Verdict.{Verdict}
 use Rattle.frame_cutter.specs.Sends.{AreSlices, HasSent}
 use Rattle.frame_cutter.specs.Stages.{ends_at, gone_of, jobs_at, pieces_at, roots_at}
-use Rattle.frame_cutter.specs.Standing.{DeskStands, HasBlock, HasServed, IsUnderway, StandsAt}
+use Rattle.frame_cutter.specs.Standing.{CutterStands, HasBlock, HasServed, IsUnderway, StandsAt}
 use Rattle.frame_cutter.proofs.SeatLaws.{HasGone, sent_then}
 
--- the desk with these of its parts
+-- the cutter with these of its parts
 abbrev pub moved_to :
-    Desk → PoolSeat → ℕ → ℕ → Vec Found → Bool → Slicer → Vec ViewData → Stage → Verdict → Desk
+    Cutter → PoolSeat → ℕ → ℕ → Vec Found → Bool → Slicer → Vec ViewData → Stage → Verdict → Cutter
 moved_to d seat turns moves finds last slicer slices stage verdict =
     record d {
       seat = seat;
@@ -40,7 +40,7 @@ pub record KeepsTold (workers : ℕ) (old new : Stage) : Type 0 where
   pub behind : gone_of new ≡ 0
   pub ends : (worker : ℕ) → worker < workers → ends_at old worker ≡ ends_at new worker
 
-module _ (shop : Shop) (d : Desk) (read : List ℕ) (st : DeskStands shop d read)
+module _ (shop : Shop) (d : Cutter) (read : List ℕ) (st : CutterStands shop d read)
     (seat : PoolSeat) (turns moves : ℕ) (finds : Vec Found) (last : Bool) (slicer : Slicer) (slices : Vec ViewData)
     (stage : Stage) (verdict : Verdict) (pieces : List (List ℕ))
     (went : HasGone shop.pool.now d.workers turns moves (roots_at stage slices.items) d.seat seat)
@@ -102,7 +102,7 @@ module _ (shop : Shop) (d : Desk) (read : List ℕ) (st : DeskStands shop d read
   pub moved : (more : List ℕ) → AreSlices (view_of seat).own.notes (Some d.workers) slices.items pieces
       → length slices.items + moves ≤ length d.slices.items + d.moves
       → IsUnderway stage (moved_to d seat turns moves finds last slicer slices stage verdict) more st.handed pieces
-      → DeskStands shop (moved_to d seat turns moves finds last slicer slices stage verdict) more
+      → CutterStands shop (moved_to d seat turns moves finds last slicer slices stage verdict) more
   moved more are few underway = record {
     stands = stands_then;
     block = block_then;

@@ -1,4 +1,4 @@
--- A desk that hands its frame over: the next slice is posted.
+-- A cutter that hands its frame over: the next slice is posted.
 use Rattle.std.proofs.Common.{◌≡◌, ℕ, zero, suc, ◌+◌, ◌-◌, ◌<◌, ◌≢◌, Bool, true, false, List, [], ◌∷◌, ◌++◌, length, map, get_or, set, take, drop, eqb, eq-eqb, ne_eqb, eqb-true, refl, sym, ap, subst, ◌∙◌, arith, Option, Some, append_assoc}
 use Rattle.std.specs.Prelude.{◌%◌, ◌&&◌, if◌then◌else◌, slice_get, slice_index, unwrap_or, vec_len}
 use Rattle.std.specs.Global.{Vec}
@@ -33,12 +33,12 @@ use Rattle.shared_pool.specs.SeatLanes.{lane_of}
 use Rattle.shared_pool.specs.SeatViews.{view_of}
 use Rattle.frame_hash.specs.declared.shop.Shop.{Shop}
 use Rattle.frame_hash.specs.Told.{pieces_of, share_of}
-use Rattle.frame_cutter.specs.declared.desk.Desk.{Desk}
+use Rattle.frame_cutter.specs.declared.cutter.Cutter.{Cutter}
 use Rattle.frame_cutter.specs.declared.stage.Stage.{Stage}
 use Rattle.frame_cutter.specs.declared.stage.Stage.TheVariants.{Handing}
 use Rattle.frame_cutter.specs.Sends.{AreSlices, HasSent, IsSlice, WriteFresh, Writes, posts_in}
 use Rattle.frame_cutter.specs.Stages.{gone_of, jobs_at, pieces_at, roots_at}
-use Rattle.frame_cutter.specs.Standing.{CountsJust, DeskStands, HasServed, IsUnderway}
+use Rattle.frame_cutter.specs.Standing.{CountsJust, CutterStands, HasServed, IsUnderway}
 use Rattle.frame_cutter.proofs.CountLaws.{counts_there, second_posted}
 use Rattle.frame_cutter.proofs.FreshLaws.{WriteNone, fresh_kept}
 use Rattle.frame_cutter.proofs.NoteLaws.{posts-on, sent_kept, sent_more, slices_kept, writes_kept}
@@ -77,7 +77,7 @@ slice_at_place slices place len view len_is low view_is =
 
 -- ---- Where it stands.
 
-module _ (shop : Shop) (d : Desk) (read : List ℕ) (st : DeskStands shop d read) (root : RootId)
+module _ (shop : Shop) (d : Cutter) (read : List ℕ) (st : CutterStands shop d read) (root : RootId)
     (used gone : ℕ) (handing : d.stage ≡ Handing root used gone) where
   pub handing_at : IsUnderway (Handing root used gone) d read st.handed st.pieces
   handing_at = subst (λ (s : Stage). IsUnderway s d read st.handed st.pieces) handing st.underway
@@ -226,10 +226,10 @@ module _ (shop : Shop) (d : Desk) (read : List ℕ) (st : DeskStands shop d read
           let a = (st.served worker below).room m in let b = none_sent worker ne in let c = as_many worker ne in
           omega (arith, a, b, c))
 
-      abbrev sent_desk : Desk
-      sent_desk = record d { seat = seat; stage = Handing root used (gone + 1); rooms = rooms }
+      abbrev sent_cutter : Cutter
+      sent_cutter = record d { seat = seat; stage = Handing root used (gone + 1); rooms = rooms }
 
-      served_then : (worker : ℕ) → worker < d.workers → HasServed shop sent_desk st.handed st.pieces worker
+      served_then : (worker : ℕ) → worker < d.workers → HasServed shop sent_cutter st.handed st.pieces worker
       served_then worker below =
           let s = st.served worker below in
           record {
@@ -255,7 +255,7 @@ module _ (shop : Shop) (d : Desk) (read : List ℕ) (st : DeskStands shop d read
             room = room_then worker below;
           }
 
-      pub posts : DeskStands shop sent_desk read
+      pub posts : CutterStands shop sent_cutter read
       posts =
           let s = st.stands in
           let b = st.block in

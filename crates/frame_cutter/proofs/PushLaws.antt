@@ -1,4 +1,4 @@
--- A desk that pushed a job to a worker's queue, or found it full.
+-- A cutter that pushed a job to a worker's queue, or found it full.
 use Rattle.std.proofs.Common.{◌≡◌, ℕ, ◌<◌, ◌≢◌, List, length, set, sym, ap, subst, ◌∙◌, arith, Some}
 use Rattle.std.specs.Prelude.{HoldsAt, slice_get}
 use Rattle.std.proofs.lemmas.List.{get_or-set_other, get_or-set_same, length-set}

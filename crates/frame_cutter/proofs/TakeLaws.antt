@@ -1,4 +1,4 @@
--- A desk that takes what its slicer found: with one slice more, or none.
+-- A cutter that takes what its slicer found: with one slice more, or none.
 use Rattle.std.proofs.Common.{◌≡◌, ℕ, zero, suc, ◌+◌, ◌-◌, ◌<◌, ◌≤◌, Bool, true, false, List, [], ◌∷◌, ◌++◌, length, map, take, drop, slice_range, refl, ap, subst, sym, ◌∙◌, arith, Option, Some, ⊎_elim, append_assoc, append-nil, length-append}
 use Rattle.std.specs.Prelude.{slice_get}
 use Rattle.std.specs.Global.{Vec}
@@ -20,12 +20,12 @@ use Rattle.frame_hash.specs.Told.{joined}
 use Rattle.frame_hash.proofs.ToldLaws.{joined-more}
 use Rattle.frame_slices.specs.declared.slicer.Found.{Found}
 use Rattle.frame_slices.specs.Slices.{Takes}
-use Rattle.frame_cutter.specs.declared.desk.Desk.{Desk}
+use Rattle.frame_cutter.specs.declared.cutter.Cutter.{Cutter}
 use Rattle.frame_cutter.specs.declared.stage.Stage.TheVariants.{Cutting}
 use Rattle.frame_cutter.specs.Finds.{GoThrough, IsFind, own_then, slice_at, stage_at}
 use Rattle.frame_cutter.specs.Sends.{AreSlices, IsSlice}
 use Rattle.frame_cutter.specs.Stages.{ends_at, gone_of, roots_at}
-use Rattle.frame_cutter.specs.Standing.{DeskStands, IsAt, IsInRoot, IsUnderway}
+use Rattle.frame_cutter.specs.Standing.{CutterStands, IsAt, IsInRoot, IsUnderway}
 use Rattle.frame_cutter.proofs.CountLaws.{more_last}
 use Rattle.frame_cutter.proofs.CutLaws.{counts_here, cutting_at, keeps_told}
 use Rattle.frame_cutter.proofs.GoLaws.{goes-on}
@@ -78,7 +78,7 @@ module _ (es : List Entry) (lane : Option ℕ) (view : ViewData) (piece : List �
       last zero (suc n) v p e f = absurd (cc f)
       last (suc m) n v p e f = absurd (cc e)
 
--- ---- The desk behind a find.
+-- ---- The cutter behind a find.
 
 -- the bytes of a block that lies at the front of a root
 part-at : (block rest : List ℕ) (start end : ℕ) → start ≤ end → end ≤ length block
@@ -88,8 +88,8 @@ part-at block rest start end le within =
     sym (ap (take (end - start)) (drop-append-le start block rest (omega (arith, le, within)))
     ∙ take-append-le (end - start) (drop start block) rest (omega (arith, long, le, within)))
 
-module _ (shop : Shop) (d : Desk) (root : RootId) (f : Found) (read : List ℕ) (st : DeskStands shop d read) (used : ℕ)
-    (cutting : d.stage ≡ Cutting root used) (found : slice_get d.finds.items used ≡ Some f) where
+module _ (shop : Shop) (d : Cutter) (root : RootId) (f : Found) (read : List ℕ) (st : CutterStands shop d read)
+    (used : ℕ) (cutting : d.stage ≡ Cutting root used) (found : slice_get d.finds.items used ≡ Some f) where
   at : IsUnderway (Cutting root used) d read st.handed st.pieces
   at = cutting_at shop d read st root used cutting
 
@@ -160,7 +160,7 @@ module _ (shop : Shop) (d : Desk) (root : RootId) (f : Found) (read : List ℕ) 
     abbrev roots : List RootId
     roots = root ∷ map (λ v. v.root) slices.items
 
-    abbrev e : Desk
+    abbrev e : Cutter
     e =
         moved_to d seat d.turns moves d.finds d.last d.slicer slices (stage_at root (used + 1) f.ended) d.verdict
 
@@ -216,7 +216,7 @@ module _ (shop : Shop) (d : Desk) (root : RootId) (f : Found) (read : List ℕ) 
         )
 
     takes_so : AreSlices (view_of seat).own.notes (Some d.workers) slices.items pieces
-        → length slices.items + moves ≤ length d.slices.items + d.moves → DeskStands shop e read
+        → length slices.items + moves ≤ length d.slices.items + d.moves → CutterStands shop e read
     takes_so are few =
         let stage = stage_at root (used + 1) f.ended in
         moved shop d read st seat d.turns moves d.finds d.last d.slicer slices stage d.verdict pieces
@@ -227,7 +227,7 @@ module _ (shop : Shop) (d : Desk) (root : RootId) (f : Found) (read : List ℕ) 
         read are few (next f.ended taken onward)
 
   -- no byte is the frame's
-  pub takes_none : f.start ≡ f.used → DeskStands shop (record d { stage = stage_at root (used + 1) f.ended }) read
+  pub takes_none : f.start ≡ f.used → CutterStands shop (record d { stage = stage_at root (used + 1) f.ended }) read
   takes_none none =
       let empty : part ≡ [] = ap (λ n. take n (drop f.start block))
       (let e : f.used - f.start ≡ 0 = omega (arith, none) in e) in
@@ -275,7 +275,7 @@ module _ (shop : Shop) (d : Desk) (root : RootId) (f : Found) (read : List ℕ) 
           piece_is = part-at block r.rest f.start f.used (omega (arith, some)) a;
         }
 
-    pub takes_one : DeskStands shop (record d {
+    pub takes_one : CutterStands shop (record d {
       seat = seat;
       moves = d.moves - 1;
       slices = slices;

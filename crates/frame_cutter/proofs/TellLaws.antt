@@ -11,11 +11,11 @@ use Rattle.job_queue.specs.declared.jobs.JobLog.{JobLog}
 use Rattle.job_queue.specs.Jobs.{IsSender}
 use Rattle.frame_hash.specs.declared.shop.Shop.{Shop}
 use Rattle.frame_hash.specs.Told.{jobs_of, share_of}
-use Rattle.frame_cutter.specs.declared.desk.Desk.{Desk}
+use Rattle.frame_cutter.specs.declared.cutter.Cutter.{Cutter}
 use Rattle.frame_cutter.specs.declared.stage.Stage.{Stage}
 use Rattle.frame_cutter.specs.declared.stage.Stage.TheVariants.{Ending}
 use Rattle.frame_cutter.specs.Stages.{jobs_at}
-use Rattle.frame_cutter.specs.Standing.{DeskStands, HasBlock, HasServed, StandsAt}
+use Rattle.frame_cutter.specs.Standing.{CutterStands, HasBlock, HasServed, StandsAt}
 use Rattle.frame_cutter.proofs.EndLaws.{verdict_same}
 use Rattle.frame_cutter.proofs.PushLaws.{HasEnd, ends_put}
 
@@ -41,13 +41,13 @@ not_yet next = ap told_if (le-ltb next next (omega arith))
 now_told : (next : ℕ) → told_if (nat_lt next (next + 1)) ≡ End ∷ []
 now_told next = ap told_if (lt-ltb next (next + 1) (omega arith))
 
--- a desk whose stage is known
-pub at_ending : (shop : Shop) (d : Desk) (read : List ℕ) (next : ℕ) → d.stage ≡ Ending next → DeskStands shop d read
-    → DeskStands shop (record d { stage = Ending next }) read
-at_ending shop d read next ending st = subst (λ (s : Stage). DeskStands shop (record d { stage = s }) read) ending st
+-- a cutter whose stage is known
+pub at_ending : (shop : Shop) (d : Cutter) (read : List ℕ) (next : ℕ) → d.stage ≡ Ending next → CutterStands shop d read
+    → CutterStands shop (record d { stage = Ending next }) read
+at_ending shop d read next ending st = subst (λ (s : Stage). CutterStands shop (record d { stage = s }) read) ending st
 
-module _ (shop : Shop) (d : Desk) (read : List ℕ) (next : ℕ)
-    (st : DeskStands shop (record d { stage = Ending next }) read) (below : next < d.workers)
+module _ (shop : Shop) (d : Cutter) (read : List ℕ) (next : ℕ)
+    (st : CutterStands shop (record d { stage = Ending next }) read) (below : next < d.workers)
     (ends : Vec (Pass Job JobLog)) (end : Pass Job JobLog) (put : ends.items ≡ set d.ends.items next end)
     (sends : HoldsAt (λ q. IsSender q end) shop.queues.now next) where
   -- the end of the worker as it was
@@ -105,7 +105,7 @@ module _ (shop : Shop) (d : Desk) (read : List ℕ) (next : ℕ)
     block_then =
         let b = st.block in record { some = b.some; few = b.few; class = b.class }
 
-    tells_so : DeskStands shop (record d { ends = ends; stage = Ending told }) read
+    tells_so : CutterStands shop (record d { ends = ends; stage = Ending told }) read
     tells_so = record {
       stands = stands_then;
       block = block_then;
@@ -127,13 +127,13 @@ module _ (shop : Shop) (d : Desk) (read : List ℕ) (next : ℕ)
 
   -- the queue was full
   pub tells_none : (view end).sent ≡ (view old).sent
-      → DeskStands shop (record d { ends = ends; stage = Ending next }) read
+      → CutterStands shop (record d { ends = ends; stage = Ending next }) read
   tells_none sent =
       tells_so next (omega (arith, below)) (sent ∙ (st.served next below).jobs) (λ worker ne. refl)
 
   -- it was told
   pub tells_one : (view end).sent ≡ (view old).sent ++ End ∷ []
-      → DeskStands shop (record d { ends = ends; stage = Ending (next + 1) }) read
+      → CutterStands shop (record d { ends = ends; stage = Ending (next + 1) }) read
   tells_one sent =
       let own = jobs_of (share_of d.workers next 0 st.handed) in
       tells_so (next + 1) (omega (arith, below))

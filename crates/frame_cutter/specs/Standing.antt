@@ -26,7 +26,7 @@ use Rattle.frame_slices.specs.Slices.{HasCut}
 use Rattle.frame_hash.specs.declared.shop.Shop.{Shop}
 use Rattle.frame_hash.specs.Told.{joined}
 use Rattle.frame_cutter.specs.declared.cutting.Cutting as machines
-use Rattle.frame_cutter.specs.declared.desk.Desk.{Desk}
+use Rattle.frame_cutter.specs.declared.cutter.Cutter.{Cutter}
 use Rattle.frame_cutter.specs.declared.stage.Stage.{Stage}
 use Rattle.frame_cutter.specs.declared.stage.Stage.TheVariants.{Filling, Cutting, Handing, LettingGo, Ending, Over}
 use Rattle.frame_cutter.specs.declared.stage.Verdict.{Verdict}
@@ -42,20 +42,20 @@ use Rattle.frame_cutter.specs.Stops.{AreBlocks, StopsWithin}
 -- the frames that were handed over are those of the bytes gone through, and these pieces are of the
 -- next
 pub record IsBetween
-    (d : Desk) (gone : List ℕ) (handed : List (List (List ℕ))) (pieces : List (List ℕ)) : Type 0
+    (d : Cutter) (gone : List ℕ) (handed : List (List (List ℕ))) (pieces : List (List ℕ)) : Type 0
   where
     pub frames : frames_of gone ≡ map joined handed
     pub healthy : d.verdict ≡ Whole
 
 -- the pieces are a whole frame, the next behind those that were handed over
 pub record IsAtFrame
-    (d : Desk) (gone : List ℕ) (handed : List (List (List ℕ))) (pieces : List (List ℕ)) : Type 0
+    (d : Cutter) (gone : List ℕ) (handed : List (List (List ℕ))) (pieces : List (List ℕ)) : Type 0
   where
     pub frames : frames_of gone ≡ map joined handed ++ joined pieces ∷ []
     pub healthy : d.verdict ≡ Whole
 
 -- the block came behind these bytes, and is in a root; it is full, if it isn't the last
-pub record IsInRoot (d : Desk) (before block read : List ℕ) (root : RootId) : Type 0 where
+pub record IsInRoot (d : Cutter) (before block read : List ℕ) (root : RootId) : Type 0 where
   pub read_is : read ≡ before ++ block
   pub blocks : AreBlocks d.block before
   pub few : length block ≤ d.block
@@ -75,14 +75,14 @@ pub record IsAt
     pub rest : GoThrough (drop used finds) block place (before ++ take place block) own s
 
 -- a stream that ends inside a frame is refused at its end
-abbrev pub IsMet : FrameNo → Desk → Type 0
+abbrev pub IsMet : FrameNo → Cutter → Type 0
 IsMet (Inside number) d = d.last ≡ true
 IsMet (Length number) d = Unit {0}
 IsMet Frames d = Unit {0}
 IsMet Stream d = Unit {0}
 
 -- what the stream came to; behind the block in which a refusal is met nothing is read
-abbrev pub HasVerdict : Verdict → Desk → List ℕ → List (List (List ℕ)) → Type 0
+abbrev pub HasVerdict : Verdict → Cutter → List ℕ → List (List (List ℕ)) → Type 0
 HasVerdict Whole d read handed =
     (d.last ≡ true) × (failure_of read ≡ None) × (frames_of read ≡ map joined handed)
 HasVerdict (Refused why) d read handed =
@@ -91,7 +91,7 @@ HasVerdict Fault d read handed = Unit {0}
 
 -- by its stage, how far it came in the bytes that were read
 abbrev pub IsUnderway :
-    Stage → Desk → List ℕ → List (List (List ℕ)) → List (List ℕ) → Type 0
+    Stage → Cutter → List ℕ → List (List (List ℕ)) → List (List ℕ) → Type 0
 IsUnderway Filling d read handed pieces =
     (d.last ≡ false) × IsBetween d read handed pieces × HasCut d.slicer read (joined pieces)
     × AreBlocks d.block read
@@ -108,14 +108,14 @@ IsUnderway (Ending next) d read handed pieces =
     HasVerdict d.verdict d read handed × (next ≤ d.workers) × (pieces ≡ [])
 IsUnderway Over d read handed pieces = HasVerdict d.verdict d read handed × (pieces ≡ [])
 
--- ---- The desk.
+-- ---- The cutter.
 
 -- the view counts each of these roots exactly as often as it is there, and no other
 abbrev pub CountsJust : List RootId → SeatView → Type 0
 CountsJust roots v = (root : RootId) → gained_of root v ≡ lost_of root v + times root roots
 
--- the desk stands at the pool beside its workers, whose lanes are those below its own
-pub record StandsAt (shop : Shop) (d : Desk) : Type 0 where
+-- the cutter stands at the pool beside its workers, whose lanes are those below its own
+pub record StandsAt (shop : Shop) (d : Cutter) : Type 0 where
   pub works : Works shop.pool.now empty_hand d.turns d.moves d.seat
   pub lane : (view_of d.seat).own.number ≡ Some d.workers
   pub lanes : shop.pool.now.table.layout.shape.lanes ≡ d.workers + 1
@@ -125,14 +125,14 @@ pub record StandsAt (shop : Shop) (d : Desk) : Type 0 where
   pub rooms : length d.rooms.items ≡ d.workers
 
 -- a root may have as many bytes as a block
-pub record HasBlock (shop : Shop) (d : Desk) : Type 0 where
+pub record HasBlock (shop : Shop) (d : Cutter) : Type 0 where
   pub some : 0 < d.block
   pub few : d.block ≤ 65536
   pub class : class_of (geometry_of shop.pool.now.table.layout.shape) d.block ≡ Some d.class
 
--- what a worker got: its jobs, and its pieces; its mail has room for as many more as the desk says
+-- what a worker got: its jobs, and its pieces; its mail has room for as many more as the cutter says
 pub record HasServed
-    (shop : Shop) (d : Desk) (handed : List (List (List ℕ))) (pieces : List (List ℕ)) (worker : ℕ) :
+    (shop : Shop) (d : Cutter) (handed : List (List (List ℕ))) (pieces : List (List ℕ)) (worker : ℕ) :
     Type 0 where
   pub end : Pass Job JobLog
   pub end_is : slice_get d.ends.items worker ≡ Some end
@@ -145,8 +145,8 @@ pub record HasServed
   pub room : RoomFor shop.pool.now d.workers worker
       (sent_on d.workers worker (view_of d.seat).own.notes + slice_index d.rooms.items worker)
 
--- the desk has read just these bytes
-pub record DeskStands (shop : Shop) (d : Desk) (read : List ℕ) : Type 0 where
+-- the cutter has read just these bytes
+pub record CutterStands (shop : Shop) (d : Cutter) (read : List ℕ) : Type 0 where
   pub stands : StandsAt shop d
   pub block : HasBlock shop d
   pub counts : CountsJust (roots_at d.stage d.slices.items) (view_of d.seat)
@@ -171,8 +171,8 @@ is_fault Whole = false
 is_fault (Refused why) = false
 is_fault Fault = true
 
--- the same desk, whatever it has done with what was read
-pub record SameDesk (old new : Desk) : Type 0 where
+-- the same cutter, whatever it has done with what was read
+pub record SameCutter (old new : Cutter) : Type 0 where
   pub workers : new.workers ≡ old.workers
   pub block : new.block ≡ old.block
   pub last : new.last ≡ old.last
@@ -186,20 +186,20 @@ pub record HasFaults (v : Verdict) (before now : ℕ) : Type 0 where
   pub none : is_fault v ≡ false → now ≡ before
 
 module _ {S : Type 0} (left : S → Option (List ℕ)) (faults : S → ℕ) where
-  -- the desk has come of the first by steps, beside a source that was the one and now is the other:
+  -- the cutter has come of the first by steps, beside a source that was the one and now is the other:
   -- unless a read failed, it has read just these bytes of it, and where it took them for the last,
   -- none is left
-  pub record DeskCame (shop : Shop) (old new : S) (first d : Desk) : Type 0 where
+  pub record CutterCame (shop : Shop) (old new : S) (first d : Cutter) : Type 0 where
     pub read : List ℕ
-    pub stands : DeskStands shop d read
+    pub stands : CutterStands shop d read
     pub workers : d.workers ≡ first.workers
     pub block : d.block ≡ first.block
     pub bytes : is_fault d.verdict ≡ false → Consumes (left old) (left new) read
     pub end : is_fault d.verdict ≡ false → d.last ≡ true → IsAtEnd (left new)
     pub faults_are : HasFaults d.verdict (faults old) (faults new)
 
-  -- the cutter has come of the first by steps, with the same source at the same desk
-  pub record CutterCame (shop : Shop) (first c : machines.Cutting S) : Type 0 where
+  -- the cutter has come of the first by steps, with the same source at the same cutter
+  pub record CuttingCame (shop : Shop) (first c : machines.Cutting S) : Type 0 where
     pub source : c.source.ghost_name ≡ first.source.ghost_name
-    pub desk : c.desk.ghost_name ≡ first.desk.ghost_name
-    pub came : DeskCame shop first.source.now c.source.now first.desk.now c.desk.now
+    pub cutter : c.cutter.ghost_name ≡ first.cutter.ghost_name
+    pub came : CutterCame shop first.source.now c.source.now first.cutter.now c.cutter.now

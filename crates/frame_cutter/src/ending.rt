@@ -1,23 +1,23 @@
 //! How a cutter ends.
 
 ghost use Rattle.std.specs.Prelude.{◌≡◌, ◌≢◌, ℕ, List};
-ghost use Rattle.frame_cutter.specs.Standing.{DeskStands, SameDesk};
+ghost use Rattle.frame_cutter.specs.Standing.{CutterStands, SameCutter};
 
-use crate::desk::Desk;
+use crate::cutter::Cutter;
 use crate::stage::Stage;
 use frame_hash::{RELEASE_TURNS, Shop};
 use job_queue::{Job, push};
 use std::sync::Wait;
 use work_table::Stepped;
 
-impl Desk {
+impl Cutter {
     /// Lets go of the last slice that is left, if there is one.
     pub(crate) fn let_go<W: Wait>(&mut self, rt: &W, shop: &Shop) -> Stepped
-        requires stands { (read : List ℕ) × DeskStands shop.now self.old read }
+        requires stands { (read : List ℕ) × CutterStands shop.now self.old read }
         requires stage { self.old.stage ≡ Stage.LettingGo }
-        ensures stands { (read : List ℕ) → DeskStands shop.now self.old read →
-            DeskStands shop.now self.new read }
-        ensures same { SameDesk self.old self.new }
+        ensures stands { (read : List ℕ) → CutterStands shop.now self.old read →
+            CutterStands shop.now self.new read }
+        ensures same { SameCutter self.old self.new }
         ensures more { result ≢ Stepped.Finished }
     {
         if self.turns < RELEASE_TURNS {
@@ -32,11 +32,11 @@ impl Desk {
 
     /// Tells the next worker that nothing more comes.
     pub(crate) fn tell<W: Wait>(&mut self, rt: &W, shop: &Shop, next: u32) -> Stepped
-        requires stands { (read : List ℕ) × DeskStands shop.now self.old read }
+        requires stands { (read : List ℕ) × CutterStands shop.now self.old read }
         requires stage { self.old.stage ≡ Stage.Ending next }
-        ensures stands { (read : List ℕ) → DeskStands shop.now self.old read →
-            DeskStands shop.now self.new read }
-        ensures same { SameDesk self.old self.new }
+        ensures stands { (read : List ℕ) → CutterStands shop.now self.old read →
+            CutterStands shop.now self.new read }
+        ensures same { SameCutter self.old self.new }
         ensures more { result ≢ Stepped.Finished }
     {
         if next == self.workers {

@@ -14,9 +14,9 @@ ghost use Rattle.shared_pool.specs.SeatViews.{view_of};
 ghost use Rattle.frame_hash.specs.declared.turns.TheConstants.{RELEASE_TURNS};
 ghost use Rattle.frame_slices.specs.Slices.{HasCut};
 ghost use Rattle.frame_cutter.specs.Loads.{IsLoaded};
-ghost use Rattle.frame_cutter.specs.Standing.{DeskCame};
+ghost use Rattle.frame_cutter.specs.Standing.{CutterCame};
 
-use crate::desk::Desk;
+use crate::cutter::Cutter;
 use crate::loading::{Loaded, Loading, load};
 use crate::stage::{Stage, Verdict};
 use frame_hash::{RELEASE_TURNS, Shop};
@@ -42,32 +42,39 @@ pub(crate) fn fill<S: Source, W: Wait>(
     rt: &W,
     shop: &Shop,
     source: &mut S,
-    desk: &mut Desk,
+    cutter: &mut Cutter,
 ) -> Result<Stepped, AllocError>
-    requires stage { desk.old.stage ≡ Stage.Filling }
-    requires came { (first : S) × (begun : Desk)
-        × DeskCame S.left S.faults shop.now first source.old begun desk.old }
-    ensures came { (first : S) (begun : Desk) →
-        DeskCame S.left S.faults shop.now first source.old begun desk.old →
-        DeskCame S.left S.faults shop.now first source.new begun desk.new }
+    requires stage { cutter.old.stage ≡ Stage.Filling }
+    requires came { (first : S) × (begun : Cutter)
+        × CutterCame S.left S.faults shop.now first source.old begun cutter.old }
+    ensures came { (first : S) (begun : Cutter) →
+        CutterCame S.left S.faults shop.now first source.old begun cutter.old →
+        CutterCame S.left S.faults shop.now first source.new begun cutter.new }
     ensures more { result ≢ Ok Stepped.Finished }
 {
-    if desk.turns < FILL_TURNS + RELEASE_TURNS {
+    if cutter.turns < FILL_TURNS + RELEASE_TURNS {
         return Ok(Stepped::Waiting);
     }
-    desk.finds.clear();
-    desk.finds.reserve(desk.block as usize / HEAD + 2)?;
-    desk.turns -= FILL_TURNS;
-    let Ok(root) = allocate(rt, shop.pool, &mut desk.seat, desk.block, desk.class, None) else {
+    cutter.finds.clear();
+    cutter.finds.reserve(cutter.block as usize / HEAD + 2)?;
+    cutter.turns -= FILL_TURNS;
+    let Ok(root) = allocate(
+        rt,
+        shop.pool,
+        &mut cutter.seat,
+        cutter.block,
+        cutter.class,
+        None,
+    ) else {
         return Ok(Stepped::Waiting);
     };
-    match load_into(rt, shop.pool, source, desk, root) {
+    match load_into(rt, shop.pool, source, cutter, root) {
         Loaded::Block { last } => {
-            desk.last = last;
-            desk.stage = Stage::Cutting { root, used: 0 };
+            cutter.last = last;
+            cutter.stage = Stage::Cutting { root, used: 0 };
         }
-        Loaded::Refused(why) => desk.stop(rt, shop.pool, root, Verdict::Refused(why)),
-        Loaded::Fault => desk.stop(rt, shop.pool, root, Verdict::Fault),
+        Loaded::Refused(why) => cutter.stop(rt, shop.pool, root, Verdict::Refused(why)),
+        Loaded::Fault => cutter.stop(rt, shop.pool, root, Verdict::Fault),
     }
     Ok(Stepped::Went)
 }
@@ -77,35 +84,35 @@ fn load_into<S: Source, W: Wait>(
     rt: &W,
     pool: &SharedPool,
     source: &mut S,
-    desk: &mut Desk,
+    cutter: &mut Cutter,
     root: RootId,
 ) -> Loaded
-    requires works { Works pool.now empty_hand 1 0 desk.old.seat }
-    requires counts { HasCount root (view_of desk.old.seat) }
-    requires range { desk.old.block ≤ knows_of root (view_of desk.old.seat) }
-    requires cut { (bytes : List ℕ) × (own : List ℕ) × HasCut desk.old.slicer bytes own }
-    requires room { (desk.old.finds.items ≡ [])
-        × (desk.old.block / 4 + 2 ≤ vec_capacity desk.old.finds) }
-    ensures desk { desk.new ≡ record desk.old {
-      seat = desk.new.seat;
-      slicer = desk.new.slicer;
-      finds = desk.new.finds;
+    requires works { Works pool.now empty_hand 1 0 cutter.old.seat }
+    requires counts { HasCount root (view_of cutter.old.seat) }
+    requires range { cutter.old.block ≤ knows_of root (view_of cutter.old.seat) }
+    requires cut { (bytes : List ℕ) × (own : List ℕ) × HasCut cutter.old.slicer bytes own }
+    requires room { (cutter.old.finds.items ≡ [])
+        × (cutter.old.block / 4 + 2 ≤ vec_capacity cutter.old.finds) }
+    ensures cutter { cutter.new ≡ record cutter.old {
+      seat = cutter.new.seat;
+      slicer = cutter.new.slicer;
+      finds = cutter.new.finds;
     } }
-    ensures proceeds { Proceeds pool.now empty_hand 1 0 no_change desk.old.seat desk.new.seat }
-    ensures counts { HasCount root (view_of desk.new.seat) }
-    ensures loaded { (block : List ℕ) × (number : ℕ) × (length block ≡ desk.old.block)
-        × IsNoted pool.now desk.old.seat desk.new.seat (Root root.place) number
+    ensures proceeds { Proceeds pool.now empty_hand 1 0 no_change cutter.old.seat cutter.new.seat }
+    ensures counts { HasCount root (view_of cutter.new.seat) }
+    ensures loaded { (block : List ℕ) × (number : ℕ) × (length block ≡ cutter.old.block)
+        × IsNoted pool.now cutter.old.seat cutter.new.seat (Root root.place) number
         (access root (Did.Set 0 block))
         × IsLoaded S.left S.faults result source.old source.new
-        desk.old.slicer desk.new.slicer desk.new.finds.items block }
+        cutter.old.slicer cutter.new.slicer cutter.new.finds.items block }
 {
-    let slicer = replace(&mut desk.slicer, Slicer::new());
-    let finds = replace(&mut desk.finds, Vec::new(desk.alloc));
-    let size = desk.block;
+    let slicer = replace(&mut cutter.slicer, Slicer::new());
+    let finds = replace(&mut cutter.finds, Vec::new(cutter.alloc));
+    let size = cutter.block;
     let (loading, _source) = with_bytes_mut(
         rt,
         pool,
-        &mut desk.seat,
+        &mut cutter.seat,
         root,
         0,
         size,
@@ -127,18 +134,18 @@ fn load_into<S: Source, W: Wait>(
         slicer,
         finds,
     } = loading;
-    desk.slicer = slicer;
-    desk.finds = finds;
+    cutter.slicer = slicer;
+    cutter.finds = finds;
     loaded
 }
 
-impl Desk {
+impl Cutter {
     // The root is let go at once, and the stream is read no further.
     fn stop<W: Wait>(&mut self, rt: &W, pool: &SharedPool, root: RootId, verdict: Verdict)
         requires works { Works pool.now empty_hand self.old.turns self.old.moves self.old.seat }
         requires turns { RELEASE_TURNS ≤ self.old.turns }
         requires counts { HasCount root (view_of self.old.seat) }
-        ensures desk { self.new ≡ record self.old {
+        ensures cutter { self.new ≡ record self.old {
           seat = self.new.seat;
           turns = self.old.turns - RELEASE_TURNS;
           stage = Stage.LettingGo;

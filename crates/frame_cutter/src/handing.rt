@@ -1,9 +1,9 @@
 //! How a frame goes to its worker.
 
 ghost use Rattle.std.specs.Prelude.{◌≡◌, ◌≢◌, ℕ, ◌-◌, ◌<◌, true, false, List, slice_index, slice_set, vec_len};
-ghost use Rattle.frame_cutter.specs.Standing.{DeskStands, SameDesk};
+ghost use Rattle.frame_cutter.specs.Standing.{CutterStands, SameCutter};
 
-use crate::desk::Desk;
+use crate::cutter::Cutter;
 use crate::stage::Stage;
 use frame_hash::Shop;
 use job_queue::{Job, push};
@@ -12,7 +12,7 @@ use seat_work::post;
 use std::sync::Wait;
 use work_table::Stepped;
 
-impl Desk {
+impl Cutter {
     /// Sends the next slice of the frame that ended, or the frame's job behind them. Where the
     /// worker's queue is full it is tried again later. Its mail has room for all of a stream.
     pub(crate) fn hand<W: Wait>(
@@ -23,11 +23,11 @@ impl Desk {
         used: usize,
         posted: usize,
     ) -> Stepped
-        requires stands { (read : List ℕ) × DeskStands shop.now self.old read }
+        requires stands { (read : List ℕ) × CutterStands shop.now self.old read }
         requires stage { self.old.stage ≡ Stage.Handing root used posted }
-        ensures stands { (read : List ℕ) → DeskStands shop.now self.old read →
-            DeskStands shop.now self.new read }
-        ensures same { SameDesk self.old self.new }
+        ensures stands { (read : List ℕ) → CutterStands shop.now self.old read →
+            CutterStands shop.now self.new read }
+        ensures same { SameCutter self.old self.new }
         ensures more { result ≢ Stepped.Finished }
     {
         let worker = self.frames % self.workers;

@@ -5,8 +5,8 @@
 //! A frame that ends goes to a worker, its slices as parcels and its number as a job. It is a
 //! machine that is stepped beside those workers.
 
+mod cutter;
 mod cutting;
-mod desk;
 mod ending;
 mod filling;
 mod handing;
@@ -14,6 +14,6 @@ mod loading;
 mod slicing;
 mod stage;
 
+pub use cutter::Cutter;
 pub use cutting::Cutting;
-pub use desk::Desk;
 pub use stage::{MOST_SLICES, Stage, Verdict};

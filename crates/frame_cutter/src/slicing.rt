@@ -9,9 +9,9 @@ ghost use Rattle.shared_pool.specs.SeatViews.{view_of};
 ghost use Rattle.frame_hash.specs.declared.shop.Shop.{Shop};
 ghost use Rattle.frame_hash.specs.declared.turns.TheConstants.{RELEASE_TURNS};
 ghost use Rattle.frame_cutter.specs.Finds.{slice_at, stage_at};
-ghost use Rattle.frame_cutter.specs.Standing.{DeskStands, SameDesk};
+ghost use Rattle.frame_cutter.specs.Standing.{CutterStands, SameCutter};
 
-use crate::desk::Desk;
+use crate::cutter::Cutter;
 use crate::stage::Stage;
 use frame_hash::{RELEASE_TURNS, Shop};
 use frame_slices::Found;
@@ -22,7 +22,7 @@ use std::alloc::AllocError;
 use std::sync::Wait;
 use work_table::Stepped;
 
-impl Desk {
+impl Cutter {
     /// Goes on with the block, which is in this root, behind so many finds.
     pub(crate) fn cut<W: Wait>(
         &mut self,
@@ -31,11 +31,11 @@ impl Desk {
         root: RootId,
         used: usize,
     ) -> Result<Stepped, AllocError>
-        requires stands { (read : List ℕ) × DeskStands shop.now self.old read }
+        requires stands { (read : List ℕ) × CutterStands shop.now self.old read }
         requires stage { self.old.stage ≡ Stage.Cutting root used }
-        ensures stands { (read : List ℕ) → DeskStands shop.now self.old read →
-            DeskStands shop.now self.new read }
-        ensures same { SameDesk self.old self.new }
+        ensures stands { (read : List ℕ) → CutterStands shop.now self.old read →
+            CutterStands shop.now self.new read }
+        ensures same { SameCutter self.old self.new }
         ensures more { result ≢ Ok Stepped.Finished }
     {
         if self.turns < RELEASE_TURNS {
@@ -55,14 +55,14 @@ impl Desk {
 
     // Takes what was found in the block for the present frame.
     fn take(&mut self, shop: &Shop, root: RootId, used: usize, found: Found)
-        requires stands { (read : List ℕ) × DeskStands shop.now self.old read }
+        requires stands { (read : List ℕ) × CutterStands shop.now self.old read }
         requires stage { self.old.stage ≡ Stage.Cutting root used }
         requires found { slice_get self.old.finds.items used ≡ Some found }
         requires moves { 0 < self.old.moves }
         requires room { vec_len self.old.slices < vec_capacity self.old.slices }
-        ensures stands { (read : List ℕ) → DeskStands shop.now self.old read →
-            DeskStands shop.now self.new read }
-        ensures same { SameDesk self.old self.new }
+        ensures stands { (read : List ℕ) → CutterStands shop.now self.old read →
+            CutterStands shop.now self.new read }
+        ensures same { SameCutter self.old self.new }
     {
         self.stage = behind(root, used + 1, found.ended);
         if found.start < found.used {
@@ -77,7 +77,7 @@ impl Desk {
         requires counts { HasCount root (view_of self.old.seat) }
         requires room { vec_len self.old.slices < vec_capacity self.old.slices }
         requires order { start ≤ end }
-        ensures desk { self.new ≡ record self.old {
+        ensures cutter { self.new ≡ record self.old {
           seat = self.new.seat;
           moves = self.old.moves - 1;
           slices = self.new.slices;
@@ -102,13 +102,13 @@ impl Desk {
 
     // The block is cut: its root is let go, and the next block is read, if there is one.
     fn leave<W: Wait>(&mut self, rt: &W, shop: &Shop, root: RootId)
-        requires stands { (read : List ℕ) × DeskStands shop.now self.old read }
+        requires stands { (read : List ℕ) × CutterStands shop.now self.old read }
         requires stage { (used : ℕ) × (self.old.stage ≡ Stage.Cutting root used)
             × (vec_len self.old.finds ≤ used) }
         requires turns { RELEASE_TURNS ≤ self.old.turns }
-        ensures stands { (read : List ℕ) → DeskStands shop.now self.old read →
-            DeskStands shop.now self.new read }
-        ensures same { SameDesk self.old self.new }
+        ensures stands { (read : List ℕ) → CutterStands shop.now self.old read →
+            CutterStands shop.now self.new read }
+        ensures same { SameCutter self.old self.new }
     {
         self.drop_root(rt, shop.pool, root);
         self.stage = Stage::Filling;
@@ -122,7 +122,7 @@ impl Desk {
         requires works { Works pool.now empty_hand self.old.turns self.old.moves self.old.seat }
         requires turns { RELEASE_TURNS ≤ self.old.turns }
         requires counts { HasCount root (view_of self.old.seat) }
-        ensures desk { self.new
+        ensures cutter { self.new
             ≡ record self.old { seat = self.new.seat; turns = self.old.turns - RELEASE_TURNS } }
         ensures released { (last : Bool) × Proceeds pool.now empty_hand RELEASE_TURNS 0
             (once_less root last) self.old.seat self.new.seat }

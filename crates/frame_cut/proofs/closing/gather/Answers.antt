@@ -19,12 +19,12 @@ index_mut-requires c =
     omega (arith, a, b, d)) in
     let at = taken_off all.items l.workers.items n c.remove.result l.invariant.left inside c.remove.ensures.value in
     let both = c.requires.ends n c.remove.result at in
-    let a = slice_get_within c.args.desk.ends.items n both.end both.end_is in let b = l.invariant.ends_many in
+    let a = slice_get_within c.args.cutter.ends.items n both.end both.end_is in let b = l.invariant.ends_many in
     let d = l.ends.ok.0 in omega (arith, a, b, d)
 
 pub reunite-requires : goal.reunite-requires
 reunite-requires c =
-    let l = c.loop-number in let all = c.args.workers in let n = l.number in let first = c.args.desk.ends.items in
+    let l = c.loop-number in let all = c.args.workers in let n = l.number in let first = c.args.cutter.ends.items in
     let inside : n < length all.items =
     (let a = c.loop-number-test.true in let b = c.len-number-end.ensures in let d = all.ok.0 in
     omega (arith, a, b, d)) in
@@ -40,7 +40,7 @@ reunite-requires c =
 pub loop-number-preserved : goal.loop-number-preserved
 loop-number-preserved c =
     let l = c.loop-number in let inv = l.invariant in let all = c.args.workers in let n = l.number in
-    let first = c.args.desk.ends.items in let w = c.remove.result in let p = c.parts-seat.ensures in
+    let first = c.args.cutter.ends.items in let w = c.remove.result in let p = c.parts-seat.ensures in
     let s = c.push_reserved.ensures in let h = c.push_reserved-in-loop-number.ensures in
     let less : n < n + 1 = omega arith in
     let inside : n < length all.items =

@@ -2,9 +2,9 @@ use Rattle.std.proofs.Common.{◌≡◌, subst, sym}
 use Rattle.std.specs.Prelude.{All, OnOk}
 use Rattle.frame_hash.specs.declared.worker.Work.TheVariants.{Done}
 use Rattle.frame_hash.specs.declared.worker.Worker.{Worker}
-use Rattle.frame_cutter.specs.declared.desk.Desk.{Desk}
+use Rattle.frame_cutter.specs.declared.cutter.Cutter.{Cutter}
 use Rattle.frame_cutter.specs.declared.stage.Stage.TheVariants.{Over}
-use Rattle.frame_cutter.specs.Standing.{DeskCame}
+use Rattle.frame_cutter.specs.Standing.{CutterCame}
 use Rattle.frame_cut.proofs.Running.{came_first, cutter_started}
 use Rattle.frame_cut.proofs.hashing.step_all.Goals as goal
 
@@ -12,7 +12,7 @@ pub step_beside-workers-requires-clause-own : goal.step_beside-workers-requires-
 step_beside-workers-requires-clause-own g c κs within = (
   _,
   cutter_started g.S.Source.left g.S.Source.faults c.args.shop.now
-      (record { source = _; desk = record { ref_ptr = _; ghost_name = _; now = c.args.desk } }) c.requires.desk
+      (record { source = _; cutter = record { ref_ptr = _; ghost_name = _; now = c.args.cutter } }) c.requires.cutter
       c.requires.begun.0 c.requires.begun.1,
 )
 
@@ -30,18 +30,18 @@ returns g c =
     let came = stepped.ensures.own _
     (cutter_started left faults shop (record {
       source = _;
-      desk = record { ref_ptr = _; ghost_name = _; now = c.args.desk };
-    }) c.requires.desk c.requires.begun.0 c.requires.begun.1) in
+      cutter = record { ref_ptr = _; ghost_name = _; now = c.args.cutter };
+    }) c.requires.cutter c.requires.begun.0 c.requires.begun.1) in
     let source = sym (c.source-1.given.1 (sym came.source)) in
-    let desk = sym (c.desk-2-1.given.1 (sym came.desk)) in
+    let cutter = sym (c.cutter-2-1.given.1 (sym came.cutter)) in
     record {
-      desk =
-          subst (λ s. DeskCame left faults shop c.args.source.now s c.args.desk c.desk-2-1.given.0) source
-          (subst (λ (d : Desk). DeskCame left faults shop c.args.source.now own.source.now c.args.desk d) desk
+      cutter =
+          subst (λ s. CutterCame left faults shop c.args.source.now s c.args.cutter c.cutter-2-1.given.0) source
+          (subst (λ (d : Cutter). CutterCame left faults shop c.args.source.now own.source.now c.args.cutter d) cutter
           came.came);
       workers = stepped.ensures.machines;
       count = stepped.ensures.count;
       finished =
-          subst (λ (d : Desk). OnOk stepped.result.1 ((d.stage ≡ Over)
-          × All (λ (w : Worker). w.work ≡ Done) stepped.result.0.items)) desk stepped.ensures.finished;
+          subst (λ (d : Cutter). OnOk stepped.result.1 ((d.stage ≡ Over)
+          × All (λ (w : Worker). w.work ≡ Done) stepped.result.0.items)) cutter stepped.ensures.finished;
     }

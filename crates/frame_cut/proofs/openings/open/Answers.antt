@@ -15,7 +15,7 @@ returns-in-Ok c =
     is_open w room _ seats.items c.remove-seat.result lines.senders.items lines.receivers.items
     c.in_ok-rooms.rooms.items c.in_ok-rooms.ensures c.args.options.block
     c.in_ok-class.class (omega (arith, least)) new c.in_ok-lines.ensures h.hired own_at
-    c.new_desk-desk.ensures
+    c.new_cutter-cutter.ensures
     (let a = c.requires.block.least in omega (arith, a)) c.requires.block.greatest c.in_ok-class.ensures (
       none_left seats.items w c.hire-workers.new.seats.items c.remove-seat.new.self.items many h.left r.by_index.2,
       (let a = r.capacity in let b = h.room in let d = seats.ok.0 in let e = seats.ok.1 in

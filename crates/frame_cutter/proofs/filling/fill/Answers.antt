@@ -1,10 +1,10 @@
 use Rattle.std.proofs.Common.{◌∙◌, ◌-◌, ◌++◌, arith, refl, subst, sym}
 use Rattle.frame_hash.specs.declared.turns.TheConstants.{RELEASE_TURNS}
 use Rattle.frame_hash.specs.Told.{joined}
-use Rattle.frame_cutter.specs.declared.desk.Desk.{Desk}
+use Rattle.frame_cutter.specs.declared.cutter.Cutter.{Cutter}
 use Rattle.frame_cutter.specs.declared.stage.Stage.TheVariants.{Cutting, LettingGo}
 use Rattle.frame_cutter.specs.declared.stage.Verdict.TheVariants.{Fault, Refused}
-use Rattle.frame_cutter.specs.Standing.{DeskCame}
+use Rattle.frame_cutter.specs.Standing.{CutterCame}
 use Rattle.frame_cutter.proofs.CameLaws.{no_fault, read_failed, read_on, worked}
 use Rattle.frame_cutter.specs.declared.filling.TheConstants.{FILL_TURNS}
 use Rattle.frame_cutter.proofs.MovedLaws.{moved_to}
@@ -13,7 +13,7 @@ use Rattle.frame_cutter.proofs.filling.fill.Goals as goal
 
 pub returns-in_err-reserve-clause-came : goal.returns-in_err-reserve-clause-came
 returns-in_err-reserve-clause-came g c first begun came =
-    let d = c.args.desk.now in
+    let d = c.args.cutter.now in
     worked g.S.Source.left g.S.Source.faults c.args.shop.now first c.args.source.now c.args.source.now begun d
     (record d { finds = c.reserve.new.self }) came refl
     (λ read st. with_finds c.args.shop.now d read st c.requires.stage c.reserve.new.self)
@@ -24,12 +24,12 @@ load_into-requires-clause-cut g c =
     let came = c.requires.came.2 in (
       came.read,
       joined came.stands.pieces,
-      (reading c.args.shop.now c.args.desk.now came.read came.stands c.requires.stage).2,
+      (reading c.args.shop.now c.args.cutter.now came.read came.stands c.requires.stage).2,
     )
 
 pub returns-in_default-clause-came : goal.returns-in_default-clause-came
 returns-in_default-clause-came g c first begun came =
-    let d = c.args.desk.now in
+    let d = c.args.cutter.now in
     let mid = c.allocate.new.seat in
     let finds = c.reserve.new.self in
     let no = c.in_default.ensures in
@@ -44,22 +44,22 @@ returns-in-Block-clause-came g c first begun came =
     let left = g.S.Source.left in
     let faults = g.S.Source.faults in
     let shop = c.args.shop.now in
-    let d = c.args.desk.now in
+    let d = c.args.cutter.now in
     let st = came.stands in
     let stage = c.requires.stage in
     let got = c.in-Ok.ensures in
     let root = c.in-Ok.root in
     let last = c.in-Block.last in
     let into = c.load_into.ensures in
-    let new = c.load_into.new.desk in
+    let new = c.load_into.new.cutter in
     let loaded = c.in-Block.ensures.loaded in
     let found = loaded.4 in
     let gives = found.2.1 in
     let size = loaded.2 in
     let few = gives.few in
     let sized = got.root.0 in
-    subst (λ (x : Desk). DeskCame left faults shop first c.load_into.new.source begun
-    (record x { last = last; stage = Cutting root 0 })) (sym into.desk)
+    subst (λ (x : Cutter). CutterCame left faults shop first c.load_into.new.source begun
+    (record x { last = last; stage = Cutting root 0 })) (sym into.cutter)
     (read_on left faults shop first c.args.source.now c.load_into.new.source begun d
     (moved_to d new.seat (d.turns - FILL_TURNS) d.moves new.finds last new.slicer d.slices (Cutting root 0) d.verdict)
     came (no_fault shop d came.read st stage) found.0
@@ -74,14 +74,14 @@ returns-in-Refused-clause-came g c first begun came =
     let left = g.S.Source.left in
     let faults = g.S.Source.faults in
     let shop = c.args.shop.now in
-    let d = c.args.desk.now in
+    let d = c.args.cutter.now in
     let st = came.stands in
     let stage = c.requires.stage in
     let got = c.in-Ok.ensures in
     let root = c.in-Ok.root in
     let why = c.in-Refused.why in
     let into = c.load_into.ensures in
-    let new = c.load_into.new.desk in
+    let new = c.load_into.new.cutter in
     let loaded = c.in-Refused.ensures.loaded in
     let found = loaded.4 in
     let gives = found.2.0 in
@@ -90,13 +90,13 @@ returns-in-Refused-clause-came g c first begun came =
     let end = c.stop.new.self.seat in
     let gone = c.stop.ensures in
     let here = reading shop d came.read st stage in
-    let e : Desk =
+    let e : Cutter =
     moved_to d end (d.turns - FILL_TURNS - RELEASE_TURNS) d.moves new.finds d.last new.slicer d.slices LettingGo
     (Refused why) in
-    subst (λ (x : Desk). DeskCame left faults shop first c.load_into.new.source begun x) (sym gone.desk)
-    (subst (λ (x : Desk). DeskCame left faults shop first c.load_into.new.source begun
+    subst (λ (x : Cutter). CutterCame left faults shop first c.load_into.new.source begun x) (sym gone.cutter)
+    (subst (λ (x : Cutter). CutterCame left faults shop first c.load_into.new.source begun
     (record x { seat = end; turns = x.turns - RELEASE_TURNS; stage = LettingGo; verdict = Refused why }))
-    (sym into.desk)
+    (sym into.cutter)
     (read_on left faults shop first c.args.source.now c.load_into.new.source begun d e came
     (no_fault shop d came.read st stage) found.0
     (stopped shop d came.read st stage (omega arith) new.finds c.allocate.new.seat root new.seat loaded.1 loaded.0
@@ -111,20 +111,20 @@ returns-in-Fault-clause-came g c first begun came =
     let left = g.S.Source.left in
     let faults = g.S.Source.faults in
     let shop = c.args.shop.now in
-    let d = c.args.desk.now in
+    let d = c.args.cutter.now in
     let st = came.stands in
     let stage = c.requires.stage in
     let got = c.in-Ok.ensures in
     let root = c.in-Ok.root in
     let into = c.load_into.ensures in
-    let new = c.load_into.new.desk in
+    let new = c.load_into.new.cutter in
     let loaded = c.in-Fault.ensures.loaded in
     let end = c.stop-in-Fault.new.self.seat in
     let gone = c.stop-in-Fault.ensures in
-    subst (λ (x : Desk). DeskCame left faults shop first c.load_into.new.source begun x) (sym gone.desk)
-    (subst (λ (x : Desk). DeskCame left faults shop first c.load_into.new.source begun
+    subst (λ (x : Cutter). CutterCame left faults shop first c.load_into.new.source begun x) (sym gone.cutter)
+    (subst (λ (x : Cutter). CutterCame left faults shop first c.load_into.new.source begun
     (record x { seat = end; turns = x.turns - RELEASE_TURNS; stage = LettingGo; verdict = Fault }))
-    (sym into.desk)
+    (sym into.cutter)
     (read_failed left faults shop first c.args.source.now c.load_into.new.source begun d
     (moved_to d end (d.turns - FILL_TURNS - RELEASE_TURNS) d.moves new.finds d.last new.slicer d.slices LettingGo
     Fault) came (no_fault shop d came.read st stage)

@@ -4,21 +4,21 @@ use Rattle.frame_cutter.proofs.cutting.CuttingMachineShop.step.Goals as goal
 
 pub fill-requires-clause-came : goal.fill-requires-clause-came
 fill-requires-clause-came g c =
-    let comes = c.requires.comes in (comes.0.source.now, comes.0.desk.now, comes.1.came)
+    let comes = c.requires.comes in (comes.0.source.now, comes.0.cutter.now, comes.1.came)
 
 pub returns-then-eq-clause-comes : goal.returns-then-eq-clause-comes
 returns-then-eq-clause-comes g c first came = record {
   source = came.source;
-  desk = came.desk;
-  came = c.fill.ensures.came first.source.now first.desk.now came.came;
+  cutter = came.cutter;
+  came = c.fill.ensures.came first.source.now first.cutter.now came.came;
 }
 
 pub returns-clause-comes : goal.returns-clause-comes
 returns-clause-comes g c first came =
     let self = c.args.self.now in record {
       source = came.source;
-      desk = came.desk;
+      cutter = came.cutter;
       came =
           worked g.S.Source.left g.S.Source.faults c.args.shop.now first.source.now self.source.now self.source.now
-          first.desk.now self.desk.now c.go_on.new.self came.came refl c.go_on.ensures.stands c.go_on.ensures.same;
+          first.cutter.now self.cutter.now c.go_on.new.self came.came refl c.go_on.ensures.stands c.go_on.ensures.same;
     }

@@ -1,9 +1,9 @@
 use Rattle.std.proofs.Common.{arith, subst, sym, ◌∙◌}
 use Rattle.std.proofs.lemmas.List.{nil_from_length}
-use Rattle.frame_cutter.specs.declared.desk.Desk.{Desk}
-use Rattle.frame_cutter.specs.Standing.{DeskStands}
+use Rattle.frame_cutter.specs.declared.cutter.Cutter.{Cutter}
+use Rattle.frame_cutter.specs.Standing.{CutterStands}
 use Rattle.frame_cutter.proofs.EndLaws.{has_slice, lets_go, none_left}
-use Rattle.frame_cutter.proofs.desk.Desk.let_go.Goals as goal
+use Rattle.frame_cutter.proofs.cutter.Cutter.let_go.Goals as goal
 
 pub drop_root-requires-clause-counts : goal.drop_root-requires-clause-counts
 drop_root-requires-clause-counts g c =
@@ -14,7 +14,7 @@ pub returns-in-Some-clause-stands : goal.returns-in-Some-clause-stands
 returns-in-Some-clause-stands g c read st =
     let shop = c.args.shop.now in
     let gone = c.drop_root.ensures in
-    subst (λ (d : Desk). DeskStands shop d read) (sym gone.desk)
+    subst (λ (d : Cutter). CutterStands shop d read) (sym gone.cutter)
     (lets_go shop c.args.self.now read st c.requires.stage c.pop.new.self c.in-Some.slice c.in-Some.ensures.items
     c.drop_root.new.self.seat gone.released.0 (omega arith) gone.released.1 gone.later)
 

@@ -1,9 +1,9 @@
 use Rattle.std.proofs.Common.{◌-◌, sym, subst, ◌∙◌, arith}
-use Rattle.frame_cutter.specs.declared.desk.Desk.{Desk}
-use Rattle.frame_cutter.specs.Standing.{DeskStands}
+use Rattle.frame_cutter.specs.declared.cutter.Cutter.{Cutter}
+use Rattle.frame_cutter.specs.Standing.{CutterStands}
 use Rattle.frame_cutter.proofs.CutLaws.{counts_root}
 use Rattle.frame_cutter.proofs.TakeLaws.{small, takes_none, takes_one}
-use Rattle.frame_cutter.proofs.desk.Desk.take.Goals as goal
+use Rattle.frame_cutter.proofs.cutter.Cutter.take.Goals as goal
 
 pub slice-requires-clause-counts : goal.slice-requires-clause-counts
 slice-requires-clause-counts c =
@@ -17,8 +17,8 @@ returns-then-found-clause-stands c read stands =
     let call = c.slice in
     let new = call.new.self in
     let more = call.ensures in
-    subst (λ (x : Desk). DeskStands c.args.shop.now x read)
-    (sym (more.desk
+    subst (λ (x : Cutter). CutterStands c.args.shop.now x read)
+    (sym (more.cutter
     ∙ (λ i. record d {
       seat = new.seat;
       moves = d.moves - 1;
@@ -35,7 +35,8 @@ returns-else-found-clause-stands c read stands =
     let place = small c.args.shop.now d c.args.root f read stands c.args.used c.requires.stage c.requires.found in
     let end = place.0 in
     let no = c.if-found.false in
-    subst (λ (x : Desk). DeskStands c.args.shop.now x read) (sym (λ i. record d { stage = c.behind-self.ensures i }))
+    subst (λ (x : Cutter). CutterStands c.args.shop.now x read)
+    (sym (λ i. record d { stage = c.behind-self.ensures i }))
     (takes_none c.args.shop.now d c.args.root f read stands c.args.used c.requires.stage c.requires.found
     (omega (arith, end, no)))
 

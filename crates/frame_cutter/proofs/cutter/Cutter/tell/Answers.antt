@@ -8,10 +8,10 @@ use Rattle.job_queue.specs.declared.jobs.Job.TheVariants.{End}
 use Rattle.job_queue.specs.declared.jobs.JobLog.{JobLog}
 use Rattle.job_queue.specs.Jobs.{IsSender}
 use Rattle.frame_cutter.specs.declared.stage.Stage.{Stage}
-use Rattle.frame_cutter.specs.Standing.{DeskStands}
+use Rattle.frame_cutter.specs.Standing.{CutterStands}
 use Rattle.frame_cutter.proofs.EndLaws.{over}
 use Rattle.frame_cutter.proofs.TellLaws.{at_ending, tells_none, tells_one}
-use Rattle.frame_cutter.proofs.desk.Desk.tell.Goals as goal
+use Rattle.frame_cutter.proofs.cutter.Cutter.tell.Goals as goal
 
 pub returns-then-next-self-clause-stands : goal.returns-then-next-self-clause-stands
 returns-then-next-self-clause-stands g c read st =
@@ -42,7 +42,7 @@ returns-then-not-push-clause-stands g c read stands =
     let was = c.index_mut.result.now in
     let end_is = c.index_mut.ensures.value ∙ get_or_from_slice_get d.ends.items next s.end was s.end_is in
     let long = st.stands.queues in
-    subst (λ (t : Stage). DeskStands shop (record d { ends = with_item d.ends next c.push.new.end; stage = t }) read)
+    subst (λ (t : Stage). CutterStands shop (record d { ends = with_item d.ends next c.push.new.end; stage = t }) read)
     (sym c.requires.stage)
     (tells_none shop d read next st below (with_item d.ends next c.push.new.end) c.push.new.end refl
     (λ q. subst (λ x. IsSender x c.push.new.end)

@@ -1,9 +1,9 @@
 use Rattle.std.proofs.Common.{ap, sym, ◌∙◌}
 use Rattle.frame_core.specs.Frames.{failure_of, frames_of}
-use Rattle.frame_cutter.proofs.DeskLaws.{err-why, ok-sound}
+use Rattle.frame_cutter.proofs.CutterLaws.{err-why, ok-sound}
 use Rattle.frame_cutter.specs.Standing.{verdict_of}
-use Rattle.frame_cutter.proofs.desk.Desk.finish.Goals as goal
-use Rattle.frame_cutter.proofs.desk.Desk.finish.Goals.{in-Ok, in-Err}
+use Rattle.frame_cutter.proofs.cutter.Cutter.finish.Goals as goal
+use Rattle.frame_cutter.proofs.cutter.Cutter.finish.Goals.{in-Ok, in-Err}
 
 pub returns-clause-verdict : goal.returns-clause-verdict
 returns-clause-verdict c bytes own has =

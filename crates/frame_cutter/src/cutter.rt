@@ -4,7 +4,7 @@ ghost use Rattle.std.specs.Prelude.{◌≡◌, ℕ, ◌+◌, ◌≤◌, true, fa
 ghost use Rattle.frame_hash.specs.declared.shop.Shop.{Shop};
 ghost use Rattle.frame_core.specs.Frames.{failure_of};
 ghost use Rattle.frame_slices.specs.Slices.{HasCut};
-ghost use Rattle.frame_cutter.specs.Standing.{DeskStands, SameDesk, is_fault, verdict_of};
+ghost use Rattle.frame_cutter.specs.Standing.{CutterStands, SameCutter, is_fault, verdict_of};
 
 use crate::stage::{Stage, Verdict};
 use frame_hash::Shop;
@@ -17,7 +17,7 @@ use std::sync::Wait;
 use work_table::Stepped;
 
 /// A cutter without its source.
-pub struct Desk {
+pub struct Cutter {
     pub alloc: Global,
     pub seat: PoolSeat,
     /// How many workers there are. Their lanes are those below this number, which is its own lane.
@@ -48,13 +48,13 @@ pub struct Desk {
     pub verdict: Verdict,
 }
 
-impl Desk {
-    /// The next thing that is to be done at the desk.
+impl Cutter {
+    /// The next thing that the cutter does.
     pub fn go_on<W: Wait>(&mut self, rt: &W, shop: &Shop) -> Result<Stepped, AllocError>
-        requires stands { (read : List ℕ) × DeskStands shop.now self.old read }
-        ensures stands { (read : List ℕ) → DeskStands shop.now self.old read →
-            DeskStands shop.now self.new read }
-        ensures same { SameDesk self.old self.new }
+        requires stands { (read : List ℕ) × CutterStands shop.now self.old read }
+        ensures stands { (read : List ℕ) → CutterStands shop.now self.old read →
+            CutterStands shop.now self.new read }
+        ensures same { SameCutter self.old self.new }
         ensures finished { result ≡ Ok Stepped.Finished → self.new.stage ≡ Stage.Over }
     {
         match self.stage {
@@ -69,7 +69,7 @@ impl Desk {
 
     /// The stream ends here.
     pub(crate) fn finish(&mut self)
-        ensures desk { self.new
+        ensures cutter { self.new
             ≡ record self.old { stage = Stage.LettingGo; verdict = self.new.verdict } }
         ensures verdict { (bytes own : List ℕ) → HasCut self.old.slicer bytes own →
             self.new.verdict ≡ verdict_of (failure_of bytes) }

@@ -5,7 +5,7 @@ use Rattle.frame_core.specs.declared.frame.FrameNo.{FrameNo}
 use Rattle.frame_core.specs.declared.frame.FrameNo.TheVariants as nos
 use Rattle.frame_core.specs.Frames.{count_or, failure_of, frames_of, refusal}
 use Rattle.frame_hash.specs.Told.{joined}
-use Rattle.frame_cutter.specs.declared.desk.Desk.{Desk}
+use Rattle.frame_cutter.specs.declared.cutter.Cutter.{Cutter}
 use Rattle.frame_cutter.specs.declared.stage.Stage.{Stage}
 use Rattle.frame_cutter.specs.declared.stage.Stage.TheVariants.{Filling, LettingGo}
 use Rattle.frame_cutter.specs.Stages.{block_roots, ends_at, gone_of}
@@ -26,7 +26,7 @@ err-why frames None why e = absurd (cc e)
 err-why frames (Some other) why e = cc e
 
 -- where the bytes before meet no refusal, the end alone can be wrong
-pub ended_so : (e : Desk) (read gone : List ℕ) (handed : List (List (List ℕ))) → e.last ≡ true → read ≡ gone
+pub ended_so : (e : Cutter) (read gone : List ℕ) (handed : List (List (List ℕ))) → e.last ≡ true → read ≡ gone
     → refusal (failure_of gone) ≡ None → frames_of gone ≡ map joined handed → StopsWithin e.block read
     → (failure : Option FrameNo) → failure_of gone ≡ failure → HasVerdict (verdict_of failure) e read handed
 ended_so e read gone handed last is sound frames stops None failed =

@@ -4,7 +4,7 @@ use Rattle.std.specs.Option.{option_copied}
 use Rattle.std.proofs.lemmas.Option.{slice_get_read}
 use Rattle.frame_slices.specs.declared.slicer.Found.{Found}
 use Rattle.frame_cutter.proofs.CutLaws.{reserved}
-use Rattle.frame_cutter.proofs.desk.Desk.cut.Goals as goal
+use Rattle.frame_cutter.proofs.cutter.Cutter.cut.Goals as goal
 
 -- a find that was copied out of the list stands there
 copied-there : (r : Option (Bor Found)) (xs : List Found) (k : ℕ) (f : Found)

@@ -7,10 +7,10 @@ use Rattle.std.specs.Vec.{with_item}
 use Rattle.crossbeam_queue.specs.Passes.{view}
 use Rattle.job_queue.specs.declared.jobs.Job.TheVariants.{Frame}
 use Rattle.job_queue.specs.Jobs.{IsSender}
-use Rattle.frame_cutter.specs.Standing.{DeskStands}
+use Rattle.frame_cutter.specs.Standing.{CutterStands}
 use Rattle.frame_cutter.proofs.HandLaws.{few_handed, few_slices, hands_job, hands_none}
 use Rattle.frame_cutter.proofs.PostLaws.{counts_view, known, posts, room, slice_at_place, slice_there}
-use Rattle.frame_cutter.proofs.desk.Desk.hand.Goals as goal
+use Rattle.frame_cutter.proofs.cutter.Cutter.hand.Goals as goal
 
 pub take_room-requires : goal.take_room-requires
 take_room-requires g c =
@@ -25,7 +25,7 @@ pub returns-then-not-take_room-clause-stands : goal.returns-then-not-take_room-c
 returns-then-not-take_room-clause-stands g c read stands =
     let d = c.args.self.now in
     let call = c.if-not-take_room in
-    subst (λ (r : Vec ℕ). DeskStands c.args.shop.now (record d { rooms = r }) read)
+    subst (λ (r : Vec ℕ). CutterStands c.args.shop.now (record d { rooms = r }) read)
     (sym (call.ensures.none refl)) stands
 
 pub post-requires-clause-room : goal.post-requires-clause-room
