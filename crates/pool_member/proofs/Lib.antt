@@ -16,3 +16,4 @@ pub mod Passing
 pub mod Lists
 pub mod Opened
 pub mod Ended
+mod Skips

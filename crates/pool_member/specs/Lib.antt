@@ -13,3 +13,4 @@ pub mod Trims
 pub mod Configs
 pub mod Opening
 pub mod Closing
+pub mod Watching

@@ -1,35 +1,74 @@
 //! Which allocations of a thread are watched.
 
-ghost use Rattle.std.specs.Prelude.{◌≡◌};
+ghost use Rattle.std.specs.Prelude.{◌≡◌, ◌+◌, ◌-◌, ◌^◌, ◌<◌, ◌≤◌, false, None, IfNone, IfSome, IsTrue};
+ghost use Rattle.pool_law.specs.Leaks.{is_sampled, keeps_records};
+ghost use Rattle.pool_law.specs.declared.run.Level.TheVariants.{Paranoid};
+ghost use Rattle.pool_member.specs.Watching.{Skips, skip-prop};
 
 use leak_records::Sampler;
-use pool_law::{Shape, Watch};
+use pool_law::{Level, Shape, Watch};
 
 /// Tells which of a thread's allocations are watched. It goes by the first 2^32 - 1 of them.
 #[derive(Drop)]
 pub struct Watcher {
-    sampler: Sampler,
+    lane: u32,
+    level: Level,
+    interval: u32,
     births: u32,
+    // None of the births behind these is sampled, up to this one.
+    until: u32,
     kept: Option<Option<Watch>>,
-    ghost same: { sampler.births ≡ births },
+    ghost some: { 1 ≤ interval },
+    ghost skips: { Skips level interval births until } by { skip-prop level interval births until },
 }
 
 impl Watcher {
-    ghost use Rattle.std.specs.Prelude.{◌≤◌};
-
     /// That of a thread that allocated nothing yet.
     pub(crate) fn new(lane: u32, shape: &Shape) -> Watcher
         requires { 1 ≤ shape.now.interval }
     {
+        let until = match shape.level {
+            Level::Disabled => u32::MAX,
+            Level::Simple | Level::Advanced | Level::Paranoid => 0,
+        };
         Watcher {
-            sampler: Sampler::new(lane, shape.level, shape.interval),
+            lane,
+            level: shape.level,
+            interval: shape.interval,
             births: 0,
+            until,
             kept: None,
         }
     }
 
-    /// The watch of the next allocation, if it is watched.
-    pub fn next(&mut self) -> Option<Watch> {
+    /// The watch of the next allocation, if it is watched. Where none is kept, it is that of the
+    /// next birth of the thread, just where that is sampled.
+    #[inline(always)]
+    pub fn next(&mut self) -> Option<Watch>
+        ensures watch { self.old.kept ≡ None → IfSome result (λ w.
+            (w.lane ≡ self.old.lane) × (w.serial ≡ self.old.births + 1)
+            × IsTrue (is_sampled self.old.level self.old.interval w.serial)
+            × (w.keeps ≡ keeps_records self.old.level)) }
+        ensures none { self.old.kept ≡ None → self.old.births < 2 ^ 32 - 1 → IfNone result
+            (is_sampled self.old.level self.old.interval (self.old.births + 1) ≡ false) }
+    {
+        if self.births < self.until && self.kept.is_none() {
+            self.births += 1;
+            return None;
+        }
+        self.draw()
+    }
+
+    // The same, where one is kept, or the next birth may be sampled.
+    #[inline(never)]
+    fn draw(&mut self) -> Option<Watch>
+        ensures watch { self.old.kept ≡ None → IfSome result (λ w.
+            (w.lane ≡ self.old.lane) × (w.serial ≡ self.old.births + 1)
+            × IsTrue (is_sampled self.old.level self.old.interval w.serial)
+            × (w.keeps ≡ keeps_records self.old.level)) }
+        ensures none { self.old.kept ≡ None → self.old.births < 2 ^ 32 - 1 → IfNone result
+            (is_sampled self.old.level self.old.interval (self.old.births + 1) ≡ false) }
+    {
         if let Some(watch) = self.kept {
             self.kept = None;
             return watch;
@@ -38,7 +77,37 @@ impl Watcher {
             return None;
         }
         self.births += 1;
-        self.sampler.next()
+        let sampler = Sampler::new(self.lane, self.level, self.interval);
+        if !sampler.sampled(self.births) {
+            return None;
+        }
+        self.until = self.births.saturating_add(self.gap());
+        Some(Watch {
+            lane: self.lane,
+            serial: self.births,
+            keeps: self.keeps(),
+        })
+    }
+
+    // How many births behind one that is sampled are not.
+    fn gap(&self) -> u32
+        ensures less { result < self.now.interval }
+        ensures none { self.now.level ≡ Paranoid → result ≡ 0 }
+    {
+        match self.level {
+            Level::Disabled | Level::Simple | Level::Advanced => self.interval - 1,
+            Level::Paranoid => 0,
+        }
+    }
+
+    // Whether accesses to a root that is watched are recorded.
+    fn keeps(&self) -> bool
+        ensures { result ≡ keeps_records self.now.level }
+    {
+        match self.level {
+            Level::Disabled | Level::Simple => false,
+            Level::Advanced | Level::Paranoid => true,
+        }
     }
 
     /// The next allocation has this watch, which one that was not made was given.
