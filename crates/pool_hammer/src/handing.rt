@@ -4,7 +4,7 @@ use crate::draws::Draws;
 use crate::held::{Held, keep};
 use crate::rounds::Desk;
 use crate::tally::count;
-use buffer_pool::{Back, PoolName, PoolThread, TryBack, TryNo, Unsent};
+use buffer_pool::{Back, Parcel, PoolName, PoolThread, TryBack, TryNo, Unsent};
 use std::sync::Wait;
 
 /// From so many buffers on their way on none is sent, so that no thread is left without handles while
@@ -28,11 +28,11 @@ impl<'a, B: PoolName, R: Wait> Desk<'a, B, R> {
         match me.part(self.pool, buffer, to) {
             Ok(parcel) => {
                 if !self.tally.tell(self.rt, &parcel, known) {
-                    return parcel.leave();
+                    return self.leave(parcel);
                 }
                 match self.mails.send(self.rt, parcel) {
                     Ok(()) => count(&self.tally.posted),
-                    Err(parcel) => parcel.leave(),
+                    Err(parcel) => self.leave(parcel),
                 }
             }
             Err(Unsent { why: _, buffer }) => {
@@ -40,6 +40,12 @@ impl<'a, B: PoolName, R: Wait> Desk<'a, B, R> {
                 keep(held, Held { buffer, known });
             }
         }
+    }
+
+    // A parcel can't be sent. That is told here, since no later one of its way is accepted.
+    fn leave(&self, parcel: Parcel<B>) {
+        self.must(false, "there is no memory for a parcel");
+        parcel.leave();
     }
 
     // Takes the next buffer out of the mail.
