@@ -1,7 +1,7 @@
 //! Which allocations of a thread are watched.
 
-ghost use Rattle.std.specs.Prelude.{◌≡◌, ◌+◌, ◌-◌, ◌^◌, ◌<◌, ◌≤◌, false, None, IfNone, IfSome, IsTrue};
-ghost use Rattle.pool_law.specs.Leaks.{is_sampled, keeps_records};
+ghost use Rattle.std.specs.Prelude.{◌≡◌, ◌<◌, ◌≤◌, None, Some};
+ghost use Rattle.pool_law.specs.Leaks.{keeps_records};
 ghost use Rattle.pool_law.specs.declared.run.Level.TheVariants.{Paranoid};
 ghost use Rattle.pool_member.specs.Watching.{Skips, skip-prop};
 
@@ -23,9 +23,14 @@ pub struct Watcher {
 }
 
 impl Watcher {
+    ghost use Rattle.pool_member.specs.Watches.{watch_next, births_then};
+
     /// That of a thread that allocated nothing yet.
     pub(crate) fn new(lane: u32, shape: &Shape) -> Watcher
         requires { 1 ≤ shape.now.interval }
+        ensures goes_by { (result.lane ≡ lane) × (result.level ≡ shape.now.level)
+            × (result.interval ≡ shape.now.interval) }
+        ensures none { (result.births ≡ 0) × (result.kept ≡ None) }
     {
         let until = match shape.level {
             Level::Disabled => u32::MAX,
@@ -41,16 +46,14 @@ impl Watcher {
         }
     }
 
-    /// The watch of the next allocation, if it is watched. Where none is kept, it is that of the
-    /// next birth of the thread, just where that is sampled.
+    /// The watch of the next allocation, if it is watched: the one that is kept, or else that of the
+    /// thread's next birth, which is counted, just where it is sampled.
     #[inline(always)]
     pub fn next(&mut self) -> Option<Watch>
-        ensures watch { self.old.kept ≡ None → IfSome result (λ w.
-            (w.lane ≡ self.old.lane) × (w.serial ≡ self.old.births + 1)
-            × IsTrue (is_sampled self.old.level self.old.interval w.serial)
-            × (w.keeps ≡ keeps_records self.old.level)) }
-        ensures none { self.old.kept ≡ None → self.old.births < 2 ^ 32 - 1 → IfNone result
-            (is_sampled self.old.level self.old.interval (self.old.births + 1) ≡ false) }
+        ensures watch { result ≡ watch_next self.old }
+        ensures births { self.new.births ≡ births_then self.old }
+        ensures rest { (self.new.lane ≡ self.old.lane) × (self.new.level ≡ self.old.level)
+            × (self.new.interval ≡ self.old.interval) × (self.new.kept ≡ None) }
     {
         if self.births < self.until && self.kept.is_none() {
             self.births += 1;
@@ -62,12 +65,10 @@ impl Watcher {
     // The same, where one is kept, or the next birth may be sampled.
     #[inline(never)]
     fn draw(&mut self) -> Option<Watch>
-        ensures watch { self.old.kept ≡ None → IfSome result (λ w.
-            (w.lane ≡ self.old.lane) × (w.serial ≡ self.old.births + 1)
-            × IsTrue (is_sampled self.old.level self.old.interval w.serial)
-            × (w.keeps ≡ keeps_records self.old.level)) }
-        ensures none { self.old.kept ≡ None → self.old.births < 2 ^ 32 - 1 → IfNone result
-            (is_sampled self.old.level self.old.interval (self.old.births + 1) ≡ false) }
+        ensures watch { result ≡ watch_next self.old }
+        ensures births { self.new.births ≡ births_then self.old }
+        ensures rest { (self.new.lane ≡ self.old.lane) × (self.new.level ≡ self.old.level)
+            × (self.new.interval ≡ self.old.interval) × (self.new.kept ≡ None) }
     {
         if let Some(watch) = self.kept {
             self.kept = None;
@@ -111,7 +112,11 @@ impl Watcher {
     }
 
     /// The next allocation has this watch, which one that was not made was given.
-    pub fn keep(&mut self, watch: Option<Watch>) {
+    pub fn keep(&mut self, watch: Option<Watch>)
+        ensures kept { self.new.kept ≡ Some watch }
+        ensures rest { (self.new.births ≡ self.old.births) × (self.new.lane ≡ self.old.lane)
+            × (self.new.level ≡ self.old.level) × (self.new.interval ≡ self.old.interval) }
+    {
         self.kept = Some(watch);
     }
 }
