@@ -80,13 +80,9 @@ impl Held {
         if self.member.account.turns < ALLOC_TURNS {
             return Err(Refusal::Spent);
         }
-        let watch = self.member.watcher.next();
-        match allocation::try_allocate(&self.common.shared, &mut self.member, size, class, watch) {
+        match allocation::try_allocate(&self.common.shared, &mut self.member, size, class) {
             Ok(root) => Ok(PoolBuffer::whole(self.common.name, &self.member.account, root)),
-            Err(no) => {
-                self.member.watcher.keep(watch);
-                Err(stopped(no))
-            }
+            Err(no) => Err(stopped(no)),
         }
     }
 

@@ -14,4 +14,3 @@ pub mod Configs
 pub mod Opening
 pub mod Closing
 pub mod Watching
-pub mod Watches

@@ -1,14 +1,16 @@
 //! Which allocations of a thread are watched.
 
-ghost use Rattle.std.specs.Prelude.{◌≡◌, ◌<◌, ◌≤◌, None, Some};
-ghost use Rattle.pool_law.specs.Leaks.{keeps_records};
+ghost use Rattle.std.specs.Prelude.{◌≡◌, ◌<◌, ◌≤◌};
+ghost use Rattle.pool_law.specs.Leaks.{is_sampled, keeps_records};
 ghost use Rattle.pool_law.specs.declared.run.Level.TheVariants.{Paranoid};
-ghost use Rattle.pool_member.specs.Watching.{Skips, skip-prop};
+ghost use Rattle.leak_records.specs.Records.{new_sampler};
 
 use leak_records::Sampler;
 use pool_law::{Level, Shape, Watch};
+use std::marker::Model;
 
-/// Tells which of a thread's allocations are watched. It goes by the first 2^32 - 1 of them.
+/// Tells which of a thread's allocations are watched, of the first 2^32 - 1 that are made. A
+/// contract sees the thread's number, how its births are sampled, and how many are counted.
 #[derive(Drop)]
 pub struct Watcher {
     lane: u32,
@@ -17,20 +19,28 @@ pub struct Watcher {
     births: u32,
     // None of the births behind these is sampled, up to this one.
     until: u32,
-    kept: Option<Option<Watch>>,
-    ghost some: { 1 ≤ interval },
-    ghost skips: { Skips level interval births until } by { skip-prop level interval births until },
+}
+
+impl Model for Watcher {
+    ghost use Rattle.std.specs.Prelude.{◌≤◌};
+    ghost use Rattle.leak_records.specs.Records.{Sampling};
+    ghost use Rattle.pool_member.specs.Watching.{Skips};
+
+    ghost Value = { Sampling };
+
+    ghost view = { λ w.
+        record { lane = w.lane; level = w.level; interval = w.interval; births = w.births } };
+
+    ghost invariant = { λ w. (1 ≤ w.interval) × Skips w.level w.interval w.births w.until };
 }
 
 impl Watcher {
-    ghost use Rattle.pool_member.specs.Watches.{watch_next, births_then};
+    ghost use Rattle.pool_member.specs.Watching.{watch_next, with_next};
 
     /// That of a thread that allocated nothing yet.
     pub(crate) fn new(lane: u32, shape: &Shape) -> Watcher
         requires { 1 ≤ shape.now.interval }
-        ensures goes_by { (result.lane ≡ lane) × (result.level ≡ shape.now.level)
-            × (result.interval ≡ shape.now.interval) }
-        ensures none { (result.births ≡ 0) × (result.kept ≡ None) }
+        ensures { result ≡ new_sampler lane shape.now.level shape.now.interval }
     {
         let until = match shape.level {
             Level::Disabled => u32::MAX,
@@ -42,52 +52,71 @@ impl Watcher {
             interval: shape.interval,
             births: 0,
             until,
-            kept: None,
         }
     }
 
-    /// The watch of the next allocation, if it is watched: the one that is kept, or else that of the
-    /// thread's next birth, which is counted, just where it is sampled.
+    /// The watch of the thread's next birth, just where it is sampled.
     #[inline(always)]
-    pub fn next(&mut self) -> Option<Watch>
-        ensures watch { result ≡ watch_next self.old }
-        ensures births { self.new.births ≡ births_then self.old }
-        ensures rest { (self.new.lane ≡ self.old.lane) × (self.new.level ≡ self.old.level)
-            × (self.new.interval ≡ self.old.interval) × (self.new.kept ≡ None) }
+    pub(crate) fn watch(&self) -> Option<Watch>
+        ensures { result ≡ watch_next self.now }
     {
-        if self.births < self.until && self.kept.is_none() {
-            self.births += 1;
+        if self.births < self.until {
             return None;
         }
         self.draw()
     }
 
-    // The same, where one is kept, or the next birth may be sampled.
+    // The same, where the next birth may be sampled.
     #[inline(never)]
-    fn draw(&mut self) -> Option<Watch>
-        ensures watch { result ≡ watch_next self.old }
-        ensures births { self.new.births ≡ births_then self.old }
-        ensures rest { (self.new.lane ≡ self.old.lane) × (self.new.level ≡ self.old.level)
-            × (self.new.interval ≡ self.old.interval) × (self.new.kept ≡ None) }
+    fn draw(&self) -> Option<Watch>
+        ensures { result ≡ watch_next self.now }
     {
-        if let Some(watch) = self.kept {
-            self.kept = None;
-            return watch;
-        }
         if self.births == u32::MAX {
             return None;
         }
-        self.births += 1;
-        let sampler = Sampler::new(self.lane, self.level, self.interval);
-        if !sampler.sampled(self.births) {
+        let serial = self.births + 1;
+        if !self.samples(serial) {
             return None;
         }
-        self.until = self.births.saturating_add(self.gap());
         Some(Watch {
             lane: self.lane,
-            serial: self.births,
+            serial,
             keeps: self.keeps(),
         })
+    }
+
+    /// Counts a birth.
+    #[inline(always)]
+    pub(crate) fn count(&mut self)
+        ensures { self.new ≡ with_next self.old }
+    {
+        if self.births < self.until {
+            self.births += 1;
+        } else {
+            self.count_sampled();
+        }
+    }
+
+    // The same of a birth that may be sampled.
+    #[inline(never)]
+    fn count_sampled(&mut self)
+        ensures { self.new ≡ with_next self.old }
+    {
+        if self.births == u32::MAX {
+            return;
+        }
+        self.births += 1;
+        if self.samples(self.births) {
+            self.until = self.births.saturating_add(self.gap());
+        }
+    }
+
+    // Whether the birth of this serial is sampled.
+    fn samples(&self, serial: u32) -> bool
+        requires { 1 ≤ serial }
+        ensures { result ≡ is_sampled self.now.level self.now.interval serial }
+    {
+        Sampler::new(self.lane, self.level, self.interval).sampled(serial)
     }
 
     // How many births behind one that is sampled are not.
@@ -109,14 +138,5 @@ impl Watcher {
             Level::Disabled | Level::Simple => false,
             Level::Advanced | Level::Paranoid => true,
         }
-    }
-
-    /// The next allocation has this watch, which one that was not made was given.
-    pub fn keep(&mut self, watch: Option<Watch>)
-        ensures kept { self.new.kept ≡ Some watch }
-        ensures rest { (self.new.births ≡ self.old.births) × (self.new.lane ≡ self.old.lane)
-            × (self.new.level ≡ self.old.level) × (self.new.interval ≡ self.old.interval) }
-    {
-        self.kept = Some(watch);
     }
 }

@@ -12,6 +12,7 @@ ghost use Rattle.pool_member.specs.Attempts.{as_try, HasTryCause, LeavesCounted,
 ghost use Rattle.pool_member.specs.Refusals.{call_no, is_here};
 ghost use Rattle.pool_member.specs.Threads.{HasChanged, moves_after};
 ghost use Rattle.pool_member.specs.Tries.{IsTried};
+ghost use Rattle.pool_member.specs.Watching.{with_next};
 
 use crate::answers::TryBack;
 use crate::buffer::Buffer;
@@ -29,8 +30,8 @@ impl<B: PoolName> PoolThread<B> {
     /// Tries to allocate a new buffer of so many bytes, all 0, of which none is written yet. The
     /// thread counts it once. It is busy where another thread is at this one's handles or at its
     /// arena, or in the way of what is still to be put away. A busy try and a refusal leave the
-    /// counts as they were; for want of turns, and where the buffer is too large, nothing has
-    /// changed.
+    /// counts as they were, and which of the thread's next buffers are watched; for want of turns,
+    /// and where the buffer is too large, nothing has changed.
     pub fn try_alloc(&mut self, pool: &Pool<B>, size: u32) -> Result<Buffer<B>, TryAllocNo>
         ensures buffer { IfOk result (λ b.
             (b.at ≡ views.view_of b.at.root) × (b.at.root.capacity ≡ size)
@@ -41,6 +42,9 @@ impl<B: PoolName> PoolThread<B> {
         ensures born { IfOk result (λ b.
             HasBorn pool.now b.at.root self.old.seat self.new.seat) }
         ensures moves { self.new.account.moves ≡ self.old.account.moves }
+        ensures watcher { MatchResult result
+            (λ _. self.new.watcher ≡ with_next self.old.watcher)
+            (λ _. self.new.watcher ≡ self.old.watcher) }
         ensures too_large { (result ≡ Err (TryAllocNo.Refused AllocNo.TooLarge))
             ↔ (chunk_bytes (geometry_of pool.now.table.layout.shape) < size) }
         ensures refused { IfErr result (λ no.
@@ -53,17 +57,13 @@ impl<B: PoolName> PoolThread<B> {
         if self.member.account.turns < ALLOC_TURNS {
             return Err(TryAllocNo::Refused(AllocNo::Spent));
         }
-        let watch = self.member.watcher.next();
-        match try_allocate(&pool.shared, &mut self.member, size, class, watch) {
+        match try_allocate(&pool.shared, &mut self.member, size, class) {
             Ok(root) => Ok(Buffer {
                 view: View::of_root(root),
                 thread: self.member.account.lane,
                 of: PhantomData,
             }),
-            Err(no) => {
-                self.member.watcher.keep(watch);
-                Err(try_no(no))
-            }
+            Err(no) => Err(try_no(no)),
         }
     }
 

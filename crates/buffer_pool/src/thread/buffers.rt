@@ -13,7 +13,8 @@ ghost use Rattle.seat_work.specs.Works.{HasBorn};
 ghost use Rattle.pool_member.specs.Answers.{alloc_told, alloc_turns, as_alloc, HasCause};
 ghost use Rattle.pool_member.specs.Counting.{counted, known};
 ghost use Rattle.pool_member.specs.Refusals.{call_no, is_here, part_no};
-ghost use Rattle.pool_member.specs.Threads.{HasChanged, moves_after};
+ghost use Rattle.pool_member.specs.Threads.{HasChanged, IsSettled, moves_after};
+ghost use Rattle.pool_member.specs.Watching.{with_next};
 
 use crate::answers::Back;
 use crate::buffer::Buffer;
@@ -34,8 +35,9 @@ pub(crate) const RELEASE_TURNS: u64 = 4;
 
 impl<B: PoolName> PoolThread<B> {
     /// A new buffer of so many bytes, all 0, of which none is written yet. The thread counts it
-    /// once. A refusal leaves its counts as they were; for want of turns, and where the buffer is
-    /// too large, nothing has changed.
+    /// once. A refusal leaves its counts as they were, and which of its next buffers are watched;
+    /// for want of turns, and where the buffer is too large, nothing has changed. Nothing is left to
+    /// put away of what calls that never wait began.
     pub fn alloc<W: Wait>(
         &mut self,
         rt: &W,
@@ -51,6 +53,11 @@ impl<B: PoolName> PoolThread<B> {
         ensures born { IfOk result (λ b.
             HasBorn pool.now b.at.root self.old.seat self.new.seat) }
         ensures moves { self.new.account.moves ≡ self.old.account.moves }
+        ensures watcher { MatchResult result
+            (λ _. self.new.watcher ≡ with_next self.old.watcher)
+            (λ _. self.new.watcher ≡ self.old.watcher) }
+        ensures settled { OnOk result (IsSettled self.new) }
+        ensures stays { IsSettled self.old → IsSettled self.new }
         ensures too_large { (result ≡ Err AllocNo.TooLarge)
             ↔ (chunk_bytes (geometry_of pool.now.table.layout.shape) < size) }
         ensures refused { IfErr result (λ no.
@@ -74,7 +81,8 @@ impl<B: PoolName> PoolThread<B> {
     }
 
     /// Gives a count back. True exactly where it was the last one of all threads and parcels: the
-    /// memory went back to the pool then. A refusal changes nothing, and hands the buffer back.
+    /// memory went back to the pool then, and nothing is left to put away. A refusal changes nothing,
+    /// and hands the buffer back.
     pub fn release<W: Wait>(
         &mut self,
         rt: &W,
@@ -87,6 +95,7 @@ impl<B: PoolName> PoolThread<B> {
             HasChanged 4 (once_less buffer.at.root last) None self.old self.new) }
         ensures moves { IfOk result (λ last.
             self.new.account.moves ≡ moves_after last self.old.account.moves) }
+        ensures settled { OnOk result (IsSettled self.new) }
         ensures back { IfErr result (λ back. (back.buffer ≡ buffer) × (self.new ≡ self.old)) }
     {
         let root = buffer.view.at.root;

@@ -9,7 +9,7 @@ ghost use Rattle.pool_member.specs.Alone.{GrowsAlone};
 ghost use Rattle.pool_member.specs.Growths.{IsTriedBy, LeavesAsked};
 ghost use Rattle.pool_member.specs.Refusals.{is_here};
 ghost use Rattle.pool_member.specs.Regrowths.{capacity_no, IsRefusedBy, LeavesThread};
-ghost use Rattle.pool_member.specs.Threads.{HasChanged};
+ghost use Rattle.pool_member.specs.Threads.{HasChanged, IsSettled};
 
 use crate::buffer::Buffer;
 use crate::name::PoolName;
@@ -32,7 +32,7 @@ impl<B: PoolName> PoolThread<B> {
     /// `ByteBuf.capacity`)
     ///
     /// A refusal leaves the buffer and the counts as they were; only where the arena was full have
-    /// turns been taken.
+    /// turns been taken. Nothing is left to put away of what calls that never wait began.
     pub fn capacity<W: Wait>(
         &mut self,
         rt: &W,
@@ -52,6 +52,8 @@ impl<B: PoolName> PoolThread<B> {
         ensures alone { GrowsAlone buffer.old.at.root self.old self.new }
         ensures here { OnOk result (IsTrue (is_here self.new.account buffer.new)) }
         ensures moves { self.new.account.moves ≡ self.old.account.moves }
+        ensures settled { OnOk result (IsSettled self.new) }
+        ensures stays { IsSettled self.old → IsSettled self.new }
         ensures refused { IfErr result
             (LeavesThread buffer.old.at.root self.old self.new) }
         ensures unchanged { OnErr result (buffer.new ≡ buffer.old) }

@@ -1,6 +1,6 @@
 //! How buffers come that their thread alone has.
 
-ghost use Rattle.std.specs.Prelude.{◌≡◌, ◌<◌, ◌↔◌, replicate, Err, IfErr, IfOk, IsTrue, None};
+ghost use Rattle.std.specs.Prelude.{◌≡◌, ◌<◌, ◌↔◌, replicate, Err, IfErr, IfOk, IsTrue, MatchResult, None, OnOk};
 ghost use Rattle.size_classes.specs.Sizes.{chunk_bytes};
 ghost use Rattle.pool_law.specs.Limits.{geometry_of};
 ghost use Rattle.pool_law.specs.Views as views;
@@ -10,7 +10,8 @@ ghost use Rattle.pool_member.specs.Answers.{alloc_told, alloc_turns, HasCause};
 ghost use Rattle.pool_member.specs.Counting.{is_alone};
 ghost use Rattle.buffer_pool.specs.Lones.{bytes_of};
 ghost use Rattle.pool_member.specs.Refusals.{is_here};
-ghost use Rattle.pool_member.specs.Threads.{HasChanged};
+ghost use Rattle.pool_member.specs.Threads.{HasChanged, IsSettled};
+ghost use Rattle.pool_member.specs.Watching.{with_next};
 
 use crate::lone::Lone;
 use crate::name::PoolName;
@@ -38,6 +39,11 @@ impl<B: PoolName> PoolThread<B> {
         ensures born { IfOk result (λ b.
             HasBorn pool.now b.at.root self.old.seat self.new.seat) }
         ensures moves { self.new.account.moves ≡ self.old.account.moves }
+        ensures watcher { MatchResult result
+            (λ _. self.new.watcher ≡ with_next self.old.watcher)
+            (λ _. self.new.watcher ≡ self.old.watcher) }
+        ensures settled { OnOk result (IsSettled self.new) }
+        ensures stays { IsSettled self.old → IsSettled self.new }
         ensures too_large { (result ≡ Err AllocNo.TooLarge)
             ↔ (chunk_bytes (geometry_of pool.now.table.layout.shape) < size) }
         ensures refused { IfErr result (λ no.

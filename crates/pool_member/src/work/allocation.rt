@@ -1,6 +1,6 @@
 //! How a thread allocates.
 
-ghost use Rattle.std.specs.Prelude.{◌≡◌, ◌<◌, ◌≤◌, None, Some, IfOk, IfErr};
+ghost use Rattle.std.specs.Prelude.{◌≡◌, ◌<◌, ◌≤◌, None, Some, IfOk, IfErr, MatchResult};
 ghost use Rattle.size_classes.specs.Sizes.{class_of};
 ghost use Rattle.pool_law.specs.Limits.{geometry_of};
 ghost use Rattle.seat_work.specs.Answers.{allocated};
@@ -10,17 +10,19 @@ ghost use Rattle.seat_tries.specs.Allocations as tries;
 ghost use Rattle.pool_member.specs.Answers.{as_alloc, HasCause};
 ghost use Rattle.pool_member.specs.Attempts.{as_try, HasTryCause};
 ghost use Rattle.pool_member.specs.Threads.{Does, IsSettled, IsThread};
+ghost use Rattle.pool_member.specs.Watching.{with_next};
 
 use crate::member::Member;
 use crate::pending::Pending;
 use crate::work::settling::{keep, settle, try_settle};
-use pool_law::{RootId, Watch};
+use pool_law::RootId;
 use seat_work::AllocNo;
 use shared_pool::SharedPool;
 use std::sync::Wait;
 
 /// A new root of `size` bytes, all 0, which the thread then counts once. `class` is that of the
-/// size.
+/// size. It is watched where the thread's next birth is sampled, and only a root that is born is
+/// counted for that. Nothing is left to put away.
 pub fn allocate<W: Wait>(
     rt: &W,
     pool: &SharedPool,
@@ -35,16 +37,21 @@ pub fn allocate<W: Wait>(
     ensures counts { IfOk result (λ root. 0 < counted member.new.account.counts root) }
     ensures does { Does pool.now 6 (allocated result) None member.old member.new }
     ensures moves { member.new.account.moves ≡ member.old.account.moves }
+    ensures watcher { MatchResult result
+        (λ _. member.new.watcher ≡ with_next member.old.watcher)
+        (λ _. member.new.watcher ≡ member.old.watcher) }
+    ensures settled { IsSettled member.new }
     ensures born { IfOk result (λ root. HasBorn pool.now root member.old.seat member.new.seat) }
     ensures cause { IfErr result (λ no.
         HasCause pool.now member.old member.new (as_alloc no)) }
 {
     settle(rt, pool, member);
-    let watch = member.watcher.next();
     member.account.turns -= 6;
+    let watch = member.watcher.watch();
     match seat_work::allocate(rt, pool, &mut member.seat, size, class, watch) {
         Ok(root) => {
             member.account.counts.add(root);
+            member.watcher.count();
             Ok(root)
         }
         Err(no) => Err(no),
@@ -57,7 +64,6 @@ pub fn try_allocate(
     member: &mut Member,
     size: u32,
     class: u32,
-    watch: Option<Watch>,
 ) -> Result<RootId, seat_tries::AllocNo>
     requires thread { IsThread pool.now member.old }
     requires turns { 6 ≤ member.old.account.turns }
@@ -66,12 +72,15 @@ pub fn try_allocate(
     ensures counts { IfOk result (λ root. 0 < counted member.new.account.counts root) }
     ensures does { Does pool.now 6 (tries.allocated result) None member.old member.new }
     ensures moves { member.new.account.moves ≡ member.old.account.moves }
+    ensures watcher { MatchResult result
+        (λ _. member.new.watcher ≡ with_next member.old.watcher)
+        (λ _. member.new.watcher ≡ member.old.watcher) }
     ensures born { IfOk result (λ root. HasBorn pool.now root member.old.seat member.new.seat) }
     ensures cause { IfErr result (λ no.
         HasTryCause pool.now member.old member.new (as_try no)) }
 {
     if try_settle(pool, member) {
-        return try_allocate_settled(pool, member, size, class, watch);
+        return try_allocate_settled(pool, member, size, class);
     }
     member.account.turns -= 6;
     Err(seat_tries::AllocNo::Busy)
@@ -83,7 +92,6 @@ fn try_allocate_settled(
     member: &mut Member,
     size: u32,
     class: u32,
-    watch: Option<Watch>,
 ) -> Result<RootId, seat_tries::AllocNo>
     requires thread { IsThread pool.now member.old }
     requires settled { IsSettled member.old }
@@ -93,15 +101,20 @@ fn try_allocate_settled(
     ensures counts { IfOk result (λ root. 0 < counted member.new.account.counts root) }
     ensures does { Does pool.now 6 (tries.allocated result) None member.old member.new }
     ensures moves { member.new.account.moves ≡ member.old.account.moves }
+    ensures watcher { MatchResult result
+        (λ _. member.new.watcher ≡ with_next member.old.watcher)
+        (λ _. member.new.watcher ≡ member.old.watcher) }
     ensures born { IfOk result (λ root. HasBorn pool.now root member.old.seat member.new.seat) }
     ensures cause { IfErr result (tries.HasCause pool.now member.old.seat member.new.seat) }
 {
     member.account.turns -= 6;
+    let watch = member.watcher.watch();
     let (answer, left) = seat_tries::allocate(pool, &mut member.seat, size, class, watch);
     keep(&mut member.pending, Pending::Tried(left));
     match answer {
         Ok(root) => {
             member.account.counts.add(root);
+            member.watcher.count();
             Ok(root)
         }
         Err(no) => Err(no),

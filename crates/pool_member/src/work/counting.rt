@@ -35,12 +35,13 @@ pub fn retain(pool: &SharedPool, member: &mut Member, root: RootId)
 }
 
 /// The thread counts the root once less. True exactly where that was the last count of all threads
-/// and parcels.
+/// and parcels. Nothing is left to put away.
 pub fn release<W: Wait>(rt: &W, pool: &SharedPool, member: &mut Member, root: RootId) -> bool
     requires thread { IsThread pool.now member.old }
     requires counts { 0 < counted member.old.account.counts root }
     requires turns { 4 ≤ member.old.account.turns }
     ensures does { Does pool.now 4 (once_less root result) None member.old member.new }
+    ensures settled { IsSettled member.new }
     ensures moves { member.new.account.moves ≡ moves_after result member.old.account.moves }
 {
     settle(rt, pool, member);

@@ -19,7 +19,7 @@ use shared_pool::SharedPool;
 use std::sync::Wait;
 
 /// The root has a capacity of at least `size` from now on, and the thread knows of what is answered.
-/// `class` is that of the size.
+/// `class` is that of the size. Nothing is left to put away.
 pub fn grow<W: Wait>(
     rt: &W,
     pool: &SharedPool,
@@ -33,6 +33,7 @@ pub fn grow<W: Wait>(
     requires turns { 6 ≤ member.old.account.turns }
     requires class { class_of (geometry_of pool.now.table.layout.shape) size ≡ Some class }
     ensures does { Does pool.now 6 (grown result) (Some root) member.old member.new }
+    ensures settled { IsSettled member.new }
     ensures alone { GrowsAlone root member.old member.new }
     ensures moves { member.new.account.moves ≡ member.old.account.moves }
     ensures counts { 0 < counted member.new.account.counts root }
@@ -61,6 +62,7 @@ fn grow_settled<W: Wait>(
     requires turns { 6 ≤ member.old.account.turns }
     requires class { class_of (geometry_of pool.now.table.layout.shape) size ≡ Some class }
     ensures does { Does pool.now 6 (grown result) (Some root) member.old member.new }
+    ensures settled { IsSettled member.new }
     ensures alone { GrowsAlone root member.old member.new }
     ensures moves { member.new.account.moves ≡ member.old.account.moves }
     ensures counts { 0 < counted member.new.account.counts root }

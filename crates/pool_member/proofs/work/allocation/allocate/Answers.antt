@@ -50,7 +50,7 @@ returns-in-Ok-clause-does g c =
     let new : Member = record mid {
       seat = call.new.seat;
       account = record mid.account { turns = mid.account.turns - 6; counts = c.add.new.self };
-      watcher = c.next-watch.new.self;
+      watcher = c.count.new.self;
     } in
     let le = still_turns pool c.args.member.now mid 6 settles c.requires.turns in
     let none = c.settle.ensures.settled in
@@ -71,7 +71,6 @@ returns-in-Err-clause-does g c =
     let new : Member = record mid {
       seat = call.new.seat;
       account = record mid.account { turns = mid.account.turns - 6 };
-      watcher = c.next-watch.new.self;
     } in
     let le = still_turns pool c.args.member.now mid 6 settles c.requires.turns in
     let none = c.settle.ensures.settled in
@@ -90,6 +89,5 @@ returns-in-Err-clause-cause g c =
     let new : Member = record mid {
       seat = c.allocate.new.seat;
       account = record mid.account { turns = mid.account.turns - 6 };
-      watcher = c.next-watch.new.self;
     } in
     alloc_cause c.args.pool.now c.args.member.now mid new c.settle.ensures.settles c.in-Err.no c.in-Err.ensures.worn

@@ -61,6 +61,7 @@ returns-in-Ok-clause-does c =
       seat = call.new.seat;
       account = record old.account { turns = old.account.turns - 6; counts = c.add.new.self };
       pending = Tried left;
+      watcher = c.count.new.self;
     } in
     let spends = spends_more (once_more root) 6 old.account after.account refl (omega (arith, le)) c.add.ensures.places
     root (omega arith) (times_one root) (λ other. refl) c.add.ensures.counts c.add.ensures.keeps c.add.ensures.owns in
