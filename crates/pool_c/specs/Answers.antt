@@ -15,6 +15,7 @@ use Rattle.pool_member.specs.Attempts.{as_try, HasTryCause}
 use Rattle.pool_member.specs.Refusals.{is_here}
 use Rattle.pool_member.specs.Threads.{Does, IsSettled, moves_after, Settles}
 use Rattle.pool_member.specs.Tries.{HasAccessed, StaysOut}
+use Rattle.pool_member.specs.Watching.{with_next}
 use Rattle.pool_c.specs.declared.buffer.PoolBuffer.{PoolBuffer}
 use Rattle.pool_c.specs.declared.codes.Refusal.{Refusal}
 use Rattle.pool_c.specs.declared.codes.Refusal.TheVariants.{Busy, NoHandle, Full, Worn}
@@ -68,7 +69,7 @@ whole pool thread root = record {
   length = root.capacity;
 }
 
--- the thread has a new buffer of so many bytes
+-- the thread has a new buffer of so many bytes, and counts a birth for the watching
 pub record HasAllocated (size : ℕ) (c : Common) (old new : Member) (b : PoolBuffer) : Type 0 where
   pub whole_is : b ≡ whole c.name old.account.lane (root_of b)
   pub size_is : b.length ≡ size
@@ -76,6 +77,7 @@ pub record HasAllocated (size : ℕ) (c : Common) (old new : Member) (b : PoolBu
   pub does : Does c.shared 6 (once_more (root_of b)) None old new
   pub moves : new.account.moves ≡ old.account.moves
   pub born : HasBorn c.shared (root_of b) old.seat new.seat
+  pub watcher : new.watcher ≡ with_next old.watcher
 
 -- a try of an allocation that stopped, as it is told here
 abbrev pub as_stop : AllocNo → Refusal
@@ -84,13 +86,15 @@ as_stop tries.NoHandle = NoHandle
 as_stop tries.Full = Full
 as_stop tries.Worn = Worn
 
--- it stopped for this cause: what it told of an empty bin and a full arena is in the change
+-- it stopped for this cause, and no birth is counted: what it told of an empty bin and a full arena
+-- is in the change
 pub record HasStopped (c : Common) (old new : Member) (why : Refusal) : Type 0 where
   pub stop : AllocNo
   pub why_is : why ≡ as_stop stop
   pub does : Does c.shared 6 (refused stop) None old new
   pub moves : new.account.moves ≡ old.account.moves
   pub cause : HasTryCause c.shared old new (as_try stop)
+  pub watcher : new.watcher ≡ old.watcher
 
 abbrev pub Allocs : ℕ → Common → Member → Member → Result PoolBuffer Refusal → Type 0
 Allocs size c old new answer =

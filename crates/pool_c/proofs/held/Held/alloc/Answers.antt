@@ -34,14 +34,13 @@ returns-in-Ok-clause-allocs c =
     (HasStopped x m new) may
     (subst (HasAllocated size x m new)
     (sym (c.whole.ensures ∙ ap (λ n. whole n new.account.lane c.in-Ok.root) name))
-    (has_allocated size x m new c.in-Ok.root c.next-watch.new.self ok.root ok.counts ok.does ok.moves ok.born)))
+    (has_allocated size x m new c.in-Ok.root ok.root ok.counts ok.does ok.moves ok.born ok.watcher)))
 
 pub returns-in-Err-clause-allocs : goal.returns-in-Err-clause-allocs
 returns-in-Err-clause-allocs c =
     let h : Holding = c.args.self.now in let m : Member = c.self.inside.member in let x : Common = c.deref-2.result.now
     in
-    let size = c.args.size in let left = c.try_allocate.new.member in let err = c.in-Err.ensures in
-    let new : Member = record left { watcher = c.keep.new.self } in
+    let size = c.args.size in let new = c.try_allocate.new.member in let err = c.in-Err.ensures in
     let view_common : arc_value c.self.inside.common ≡ h.common = ap (λ (i : Holding). i.common) c.self.view_is in
     let common : x ≡ h.common = c.deref-2.ensures ∙ view_common in
     let member : m ≡ h.member = ap (λ (i : Holding). i.member) c.self.view_is in
@@ -56,4 +55,4 @@ returns-in-Err-clause-allocs c =
     (begun_call (size_refusal g m.account size) (Err c.stopped.result) m new (HasAllocated size x m new)
     (HasStopped x m new) may
     (subst (HasStopped x m new) (sym c.stopped.ensures)
-    (has_stopped x m left c.next-watch.new.self c.keep.new.self c.in-Err.no err.does err.moves err.cause)))
+    (has_stopped x m new c.in-Err.no err.does err.moves err.cause err.watcher)))
