@@ -17,7 +17,7 @@ use Rattle.pool_member.specs.Refusals.{is_here}
 use Rattle.pool_member.specs.Regrowths.{capacity_no}
 use Rattle.pool_member.specs.Threads.{Does, IsSettled}
 use Rattle.pool_member.specs.Tries.{HasAccessed, StaysOut}
-use Rattle.pool_member.specs.Trims.{AreEmpty, HasTrimmed, MeetsAny}
+use Rattle.pool_member.specs.Trims.{AreEmpty, HasPaid, HasTrimmed, MeetsAny}
 use Rattle.pool_c.specs.declared.buffer.PoolBuffer.{PoolBuffer}
 use Rattle.pool_c.specs.declared.codes.Refusal.{Refusal}
 use Rattle.pool_c.specs.declared.codes.Refusal.TheVariants as no
@@ -82,10 +82,11 @@ StopsTrimming c old new no.Busy = MeetsAny c.shared old.seat new.seat
 StopsTrimming c old new no.Spent = new.account.turns < 2
 StopsTrimming c old new why = ⊥
 
--- the thread gave back what its caches kept, each of which a step of this call found empty, or some
+-- the thread gave back what its caches kept, each of which a step of this call found empty, or some,
+-- and spent turns for just that
 abbrev pub Trims : {A : Type 0} → Common → Member → Member → Result A Refusal → Type 0
 Trims c old new answer =
-    HasTrimmed c.shared old new × MatchResult answer
+    HasTrimmed c.shared old new × HasPaid cached_classes old new × MatchResult answer
     (λ _. AreEmpty c.shared cached_classes old.seat new.seat × IsSettled new)
     (StopsTrimming c old new)
 

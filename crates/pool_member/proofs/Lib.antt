@@ -17,3 +17,4 @@ pub mod Lists
 pub mod Opened
 pub mod Ended
 mod Skips
+pub mod Returns

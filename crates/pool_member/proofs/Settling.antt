@@ -1,5 +1,6 @@
 -- A thread that put away what it had to, and then did some work.
 use Rattle.std.proofs.Common.{◌≡◌, ℕ, ◌+◌, ◌-◌, ◌≤◌, refl, sym, ap, ◌∙◌, subst, arith, None}
+use Rattle.std.proofs.Math.Nat.{le_trans}
 use Rattle.std.specs.Prelude.{Option, Result, Ok, Err, IfErr, IfOk}
 use Rattle.pool_law.specs.declared.id.RootId.{RootId}
 use Rattle.shared_pool.specs.declared.pool.SharedPool.{SharedPool}
@@ -26,6 +27,7 @@ use Rattle.pool_member.specs.Answers.{as_alloc}
 use Rattle.pool_member.specs.Attempts.{as_try, HasTryCause}
 use Rattle.pool_member.specs.Counting.{counted, known}
 use Rattle.pool_member.specs.Pendings.{hand_of, owed, PutsAway}
+use Rattle.pool_member.specs.Returns.{given_with}
 use Rattle.pool_member.specs.Threads.{Does, IsSettled, IsThread, Settles, KeepsOwn}
 use Rattle.pool_member.proofs.Alone.{keeps, keeps_on, stays_same}
 use Rattle.pool_member.proofs.AloneLater.{stays_later}
@@ -36,8 +38,9 @@ module _ (pool : SharedPool) (old : Member) where
   -- what a try left is what the thread has to put away
   pub settles : (new : PoolSeat) (left : Pending) → IsThread pool old → ¬ IsSettled old
       → PutsAway pool (owed old.pending) old.seat new left
+      → given_with old.seat old.pending ≤ given_with new left
       → Settles pool old (record old { seat = new; pending = left })
-  settles new left is some away =
+  settles new left is some away returned =
       let after : Member = record old { seat = new; pending = left } in let did = away.proceeds in
       let spends = spends_none no_change 0 old.account old.account refl (omega arith) refl (λ other. refl)
       (λ other. refl) (λ other. refl) (λ other. omega arith) (λ q kept. kept) in
@@ -53,6 +56,7 @@ module _ (pool : SharedPool) (old : Member) where
         later = away.later;
         changes = did.changes;
         rest = refl;
+        returned = returned;
         none = λ settled. absurd (some settled);
       }
 
@@ -67,6 +71,7 @@ module _ (pool : SharedPool) (old : Member) where
       full = omega arith;
     };
     rest = refl;
+    returned = omega arith;
     none = λ settled. refl;
   }
 
@@ -76,6 +81,7 @@ module _ (pool : SharedPool) (old : Member) where
     later = later_on pool old.seat mid.seat new.seat x.later y.later;
     changes = changes_on no_change (view_of old.seat) (view_of mid.seat) (view_of new.seat) x.changes y.changes;
     rest = y.rest ∙ ap (λ (m : Member). record m { seat = new.seat; pending = new.pending }) x.rest;
+    returned = le_trans x.returned y.returned;
     none =
         λ settled.
         (let same = x.none settled in y.none (ap (λ (m : Member). m.pending) same ∙ settled) ∙ same);

@@ -19,8 +19,9 @@ use Rattle.pool_member.specs.declared.member.Member.{Member}
 use Rattle.pool_member.specs.declared.pending.Pending.{Pending}
 use Rattle.pool_member.specs.Counting.{counted}
 use Rattle.pool_member.specs.Pendings.{PutsAway}
-use Rattle.pool_member.specs.Threads.{Does, IsThread, Settles}
-use Rattle.pool_member.specs.Trims.{AreEmpty, FindsEmpty, HasTrimmed, MayStop, MeetsAny}
+use Rattle.pool_member.specs.Returns.{given, given_with}
+use Rattle.pool_member.specs.Threads.{Does, IsSettled, IsThread, Settles}
+use Rattle.pool_member.specs.Trims.{AreEmpty, FindsEmpty, HasPaid, HasTrimmed, MayStop, MeetsAny}
 use Rattle.pool_member.proofs.Alone.{keeps_on}
 use Rattle.pool_member.proofs.AloneLater.{stays_later}
 use Rattle.pool_member.proofs.Keeping.{kept_on, spends_none, tells_known}
@@ -186,3 +187,20 @@ module _ (pool : SharedPool) where
         moves = refl;
         later = away.later;
       }
+
+-- ---- What it spent.
+
+-- a step that gave a region back, or left it, or a mark, or found so many caches empty
+pub paid_step : (old : Member) (new : PoolSeat) (left pending : Pending) (caches : ℕ) → IsSettled old → pending ≡ left
+    → 2 ≤ old.account.turns → given old.seat + 1 ≤ caches + given_with new left
+    → HasPaid caches old
+    (record old { seat = new; account = record old.account { turns = old.account.turns - 2 }; pending = pending })
+paid_step old new left pending caches settled is le more =
+    let was : given_with old.seat old.pending ≡ given old.seat = ap (given_with old.seat) settled in
+    let now : given_with new pending ≡ given_with new left = ap (given_with new) is in
+    omega (arith, was, now, le, more)
+
+pub paid_settled : (pool : SharedPool) (old new : Member) → Settles pool old new → HasPaid 0 old new
+paid_settled pool old new x =
+    let same = ap (λ (a : Account). a.turns) (same_account pool old new x) in
+    let returned = x.returned in omega (arith, same, returned)

@@ -10,6 +10,7 @@ pub mod Attempts
 pub mod Regrowths
 pub mod Growths
 pub mod Trims
+pub mod Returns
 pub mod Configs
 pub mod Opening
 pub mod Closing

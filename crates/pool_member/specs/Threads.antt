@@ -17,6 +17,7 @@ use Rattle.pool_member.specs.declared.pending.Pending.{Pending}
 use Rattle.pool_member.specs.Alone.{KeepsAlone}
 use Rattle.pool_member.specs.Counting.{counted, is_alone, known, told}
 use Rattle.pool_member.specs.Pendings.{hand_of, nothing, owed, IsPending}
+use Rattle.pool_member.specs.Returns.{given_with}
 
 -- the seat is one of the pool with just that in hand which it has still to put away, and the account
 -- is its own: so much is left at least beside what that takes, each root is counted so often, no more
@@ -89,11 +90,13 @@ abbrev pub moves_after : Bool → ℕ → ℕ
 moves_after true moves = moves
 moves_after false moves = if nat_lt moves (2 ^ 30) then moves + 1 else moves
 
--- the same thread went on with what it had to put away, and nothing else of it changed; where it had
--- nothing, nothing at all
+-- the same thread went on with what it had to put away, and nothing else of it changed; a region that
+-- was to go back to its arena went there or is to go there still. Where it had nothing, nothing at all
+-- changed
 pub record Settles (pool : SharedPool) (old new : Member) : Type 0 where
   pub thread : IsThread pool new
   pub later : IsLater pool old.seat new.seat
   pub changes : Changes no_change (view_of old.seat) (view_of new.seat)
   pub rest : new ≡ record old { seat = new.seat; pending = new.pending }
+  pub returned : given_with old.seat old.pending ≤ given_with new.seat new.pending
   pub none : IsSettled old → new ≡ old

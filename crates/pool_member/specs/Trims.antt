@@ -1,5 +1,5 @@
 -- What a thread did that gave back what its caches kept.
-use Rattle.std.specs.Prelude.{◌≡◌, ℕ, ◌<◌, Bool, None}
+use Rattle.std.specs.Prelude.{◌≡◌, ℕ, ◌+◌, ◌*◌, ◌<◌, ◌≤◌, Bool, None}
 use Rattle.pool_law.specs.declared.note.Did.{Did}
 use Rattle.pool_law.specs.declared.note.Held.{Held}
 use Rattle.pool_law.specs.declared.note.Object.{Object}
@@ -19,6 +19,7 @@ use Rattle.pool_member.specs.declared.member.Member.{Member}
 use Rattle.pool_member.specs.declared.work.trimming.Shed.{Shed}
 use Rattle.pool_member.specs.declared.work.trimming.Shed.TheVariants as shed
 use Rattle.pool_member.specs.Pendings.{nothing, PutsAway}
+use Rattle.pool_member.specs.Returns.{given, given_with}
 use Rattle.pool_member.specs.Threads.{Does}
 
 -- a step of this seat's found its lane's cache of the class empty, and it had nothing in hand then
@@ -58,9 +59,18 @@ pub record HasTrimmed (pool : SharedPool) (old new : Member) : Type 0 where
   pub moves : new.account.moves ≡ old.account.moves
   pub later : IsLater pool old.seat new.seat
 
+-- it spent no more turns than 2 for each region that went back to its arena or is to go there, for
+-- each mark of another seat that was in its way, and for so many caches that it found empty
+abbrev pub HasPaid : ℕ → Member → Member → Type 0
+HasPaid caches old new =
+    old.account.turns + 2 * given_with old.seat old.pending
+    ≤ new.account.turns + 2 * (caches + given_with new.seat new.pending)
+
 -- what a step at the cache of a class found and left
 abbrev pub HasShed : SharedPool → ℕ → PoolSeat → PoolSeat → Shed → Type 0
-HasShed pool class old new (shed.One left) = PutsAway pool 2 old new left
+HasShed pool class old new (shed.One left) =
+    PutsAway pool 2 old new left × (given old + 1 ≤ given_with new left)
 HasShed pool class old new shed.Empty =
     PutsAway pool 2 old new nothing × FindsEmpty pool class old new
-HasShed pool class old new shed.Busy = PutsAway pool 2 old new nothing × MeetsAny pool old new
+HasShed pool class old new shed.Busy =
+    PutsAway pool 2 old new nothing × MeetsAny pool old new × (given old + 1 ≤ given new)

@@ -33,8 +33,9 @@ pub struct Config {
     /// all threads together.
     pub moves: u32,
     /// How many turns each thread has, at most 2^62 - 1 for all threads together. An allocation and
-    /// an ask for capacity take 6 of them, a release 4, a trim 2 for each cache and each region that
-    /// goes back, and any other call 1 or none. They take no memory.
+    /// an ask for capacity take 6 of them, a release 4, a trim at most 2 for each cache, each region
+    /// that goes back and each time that another thread is in one of its caches, and any other call
+    /// 1 or none. They take no memory.
     pub turns: u64,
 }
 

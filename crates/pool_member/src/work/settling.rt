@@ -1,11 +1,12 @@
 //! How a thread goes on with what it has still to put away.
 
-ghost use Rattle.std.specs.Prelude.{◌≡◌, ◌↔◌, false, IsTrue, None, Some};
+ghost use Rattle.std.specs.Prelude.{◌≡◌, ◌+◌, ◌≤◌, ◌↔◌, false, IsTrue, None, Some};
 ghost use Rattle.seat_work.specs.Answers.{hand_with};
 ghost use Rattle.seat_work.specs.Hands.{IsRegion};
 ghost use Rattle.seat_work.specs.Works.{Works};
 ghost use Rattle.seat_tries.specs.Leaving.{MeetsOther};
 ghost use Rattle.pool_member.specs.Pendings.{hand_of, nothing, owed, IsPending, PutsAway};
+ghost use Rattle.pool_member.specs.Returns.{given, given_with};
 ghost use Rattle.pool_member.specs.Threads.{IsSettled, IsThread, Settles};
 
 use crate::member::Member;
@@ -59,7 +60,8 @@ pub(crate) fn spend(pending: Pending)
 fn put_away(pool: &SharedPool, seat: &mut PoolSeat, pending: Pending) -> Pending
     requires works { Works pool.now (hand_of pending) (owed pending) 0 seat.old }
     requires pending { IsPending pool.now seat.old pending }
-    ensures { PutsAway pool.now (owed pending) seat.old seat.new result }
+    ensures away { PutsAway pool.now (owed pending) seat.old seat.new result }
+    ensures returned { given_with seat.old pending ≤ given_with seat.new result }
 {
     match pending {
         Pending::Tried(begun) => Pending::Tried(finish(pool, seat, begun)),
@@ -71,7 +73,8 @@ fn put_away(pool: &SharedPool, seat: &mut PoolSeat, pending: Pending) -> Pending
 pub(crate) fn give(pool: &SharedPool, seat: &mut PoolSeat, own: Region) -> Pending
     requires works { Works pool.now (hand_with None (Some own)) 1 0 seat.old }
     requires region { IsRegion pool.now seat.old own }
-    ensures { PutsAway pool.now 1 seat.old seat.new result }
+    ensures away { PutsAway pool.now 1 seat.old seat.new result }
+    ensures returned { given seat.old + 1 ≤ given_with seat.new result }
 {
     match pool.give(seat, own) {
         Went::Did(_number, ()) => nothing(),

@@ -1,21 +1,22 @@
 //! How a thread gives what its caches keep back to the arenas.
 
-ghost use Rattle.std.specs.Prelude.{◌≡◌, ◌<◌, false, IfErr, Ok, OnErr, OnOk};
+ghost use Rattle.std.specs.Prelude.{◌≡◌, ◌<◌, false, if◌then◌else◌, IfErr, MatchResult, Ok, OnErr, OnOk};
 ghost use Rattle.pool_law.specs.Limits.{cached_classes};
 ghost use Rattle.seat_work.specs.Hands.{empty_hand};
 ghost use Rattle.seat_work.specs.Works.{Works};
 ghost use Rattle.pool_member.specs.Threads.{IsSettled, IsThread};
-ghost use Rattle.pool_member.specs.Trims.{AreEmpty, FindsEmpty, HasShed, HasTrimmed, MayStop};
+ghost use Rattle.pool_member.specs.Trims.{AreEmpty, FindsEmpty, HasPaid, HasShed, HasTrimmed, MayStop};
 
 use crate::answers::{TrimNo, TryTrimNo};
 use crate::member::Member;
 use crate::pending::Pending;
-use crate::work::settling::{give, is_nothing, keep, try_settle};
+use crate::work::settling::{give, is_nothing, keep, settle, try_settle};
 use shared_pool::{PoolSeat, SharedPool, Went};
 use size_classes::CACHED_CLASSES;
 use std::sync::Wait;
 
-/// How many turns it takes to give a region back, or to find a cache empty.
+/// How many turns it takes to give a region back, to find a cache empty, or to mark that another
+/// seat is in it.
 const SHED_TURNS: u64 = 2;
 
 /// What a step at a cache found.
@@ -50,6 +51,9 @@ fn give_one(pool: &SharedPool, member: &mut Member, class: u32) -> Result<bool, 
     ensures took { OnOk result (member.new.account.turns < member.old.account.turns) }
     ensures settled { OnOk result (IsSettled member.new) }
     ensures empty { result ≡ Ok false → FindsEmpty pool.now class member.old.seat member.new.seat }
+    ensures paid { MatchResult result
+        (λ gave. HasPaid (if gave then 0 else 1) member.old member.new)
+        (λ _. HasPaid 0 member.old member.new) }
     ensures cause { IfErr result (MayStop pool.now member.old member.new) }
 {
     if member.account.turns < SHED_TURNS {
@@ -79,6 +83,9 @@ fn try_empty(pool: &SharedPool, member: &mut Member, class: u32) -> Result<(), T
     ensures trimmed { HasTrimmed pool.now member.old member.new }
     ensures settled { OnOk result (IsSettled member.new) }
     ensures empty { OnOk result (FindsEmpty pool.now class member.old.seat member.new.seat) }
+    ensures paid { MatchResult result
+        (λ _. HasPaid 1 member.old member.new)
+        (λ _. HasPaid 0 member.old member.new) }
     ensures cause { IfErr result (MayStop pool.now member.old member.new) }
 {
     for _step in 0..member.account.turns {
@@ -101,6 +108,7 @@ pub fn try_trim(pool: &SharedPool, member: &mut Member) -> Result<(), TryTrimNo>
     ensures settled { OnOk result (IsSettled member.new) }
     ensures empty { OnOk result
         (AreEmpty pool.now cached_classes member.old.seat member.new.seat) }
+    ensures paid { HasPaid cached_classes member.old member.new }
     ensures cause { IfErr result (MayStop pool.now member.old member.new) }
 {
     if !try_settle(pool, member) {
@@ -115,20 +123,50 @@ pub fn try_trim(pool: &SharedPool, member: &mut Member) -> Result<(), TryTrimNo>
     Ok(())
 }
 
-/// The thread gives all that its caches keep back.
+/// The thread gives all that its caches keep back. Where another one is in its way, it makes that
+/// step again, and goes on from there.
 pub fn trim<W: Wait>(rt: &W, pool: &SharedPool, member: &mut Member) -> Result<(), TrimNo>
     requires thread { IsThread pool.now member.old }
     ensures trimmed { HasTrimmed pool.now member.old member.new }
     ensures settled { OnOk result (IsSettled member.new) }
     ensures empty { OnOk result
         (AreEmpty pool.now cached_classes member.old.seat member.new.seat) }
+    ensures paid { HasPaid cached_classes member.old member.new }
+    ensures cause { OnErr result (member.new.account.turns < 2) }
+{
+    settle(rt, pool, member);
+    for class in 0..CACHED_CLASSES {
+        match wait_to_empty(rt, pool, member, class) {
+            Ok(()) => (),
+            Err(no) => return Err(no),
+        }
+    }
+    Ok(())
+}
+
+// The thread gives all that its cache of a class keeps back, as often as another one is in its way.
+fn wait_to_empty<W: Wait>(
+    rt: &W,
+    pool: &SharedPool,
+    member: &mut Member,
+    class: u32,
+) -> Result<(), TrimNo>
+    requires thread { IsThread pool.now member.old }
+    requires settled { IsSettled member.old }
+    requires class { class < cached_classes }
+    ensures trimmed { HasTrimmed pool.now member.old member.new }
+    ensures settled { OnOk result (IsSettled member.new) }
+    ensures empty { OnOk result (FindsEmpty pool.now class member.old.seat member.new.seat) }
+    ensures paid { MatchResult result
+        (λ _. HasPaid 1 member.old member.new)
+        (λ _. HasPaid 0 member.old member.new) }
     ensures cause { OnErr result (member.new.account.turns < 2) }
 {
     for _ in rt.forever() {
-        match try_trim(pool, member) {
+        match try_empty(pool, member, class) {
             Ok(()) => return Ok(()),
             Err(TryTrimNo::Spent) => return Err(TrimNo::Spent),
-            Err(TryTrimNo::Busy) => (),
+            Err(TryTrimNo::Busy) => settle(rt, pool, member),
         }
     }
     unreachable!()

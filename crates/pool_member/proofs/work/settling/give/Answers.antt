@@ -1,11 +1,14 @@
-use Rattle.std.proofs.Common.{None, Some, refl, sym, subst, arith}
+use Rattle.std.proofs.Common.{◌+◌, ◌≤◌, None, Some, refl, sym, subst, arith}
 use Rattle.pool_law.specs.declared.note.Object.TheVariants.{Arena}
 use Rattle.seat_work.specs.Answers.{hand_with}
 use Rattle.seat_work.proofs.Calls.{gave_region}
 use Rattle.seat_work.proofs.Holds.{holds_region}
-use Rattle.seat_work.proofs.Later.{later_noted}
+use Rattle.seat_work.proofs.Later.{later_has, later_noted}
+use Rattle.pool_member.specs.declared.pending.Pending.{Pending}
 use Rattle.pool_member.specs.Pendings.{PutsAway}
+use Rattle.pool_member.specs.Returns.{given, given_with}
 use Rattle.pool_member.proofs.Pendings.{none_away, piece_away}
+use Rattle.pool_member.proofs.Returns.{gave_given, later_given}
 use Rattle.pool_member.proofs.work.settling.give.Goals as goal
 
 pub give-requires-clause-region : goal.give-requires-clause-region
@@ -14,16 +17,31 @@ give-requires-clause-region c =
     holds_region c.args.pool.now c.args.seat.now (hand_with None (Some own)) own c.requires.works.held
     c.requires.region
 
-pub returns-in-Did : goal.returns-in-Did
-returns-in-Did c =
+pub returns-in-Did-clause-away : goal.returns-in-Did-clause-away
+returns-in-Did-clause-away c =
     let pool = c.args.pool.now in let old = c.args.seat.now in let new = c.give.new.seat in let did = c.in-Did in
     subst (PutsAway pool 1 old new) (sym c.nothing.ensures)
     (none_away pool old new 1 1 (omega arith)
     (gave_region pool old new did.ensures.seat did._number None c.args.own c.requires.works did.ensures.did)
     (later_noted pool old new did.ensures.same c.requires.works.seat did.ensures.seat did.ensures.did refl))
 
-pub returns-in-Held : goal.returns-in-Held
-returns-in-Held c =
+pub returns-in-Held-clause-away : goal.returns-in-Held-clause-away
+returns-in-Held-clause-away c =
     let held = c.in-Held in let own = c.args.own in let found = held.ensures.held in
     piece_away c.args.pool.now c.args.seat.now c.give.new.seat own held.region (Arena own.id.place.arena) held._held
     held.ensures.same held.ensures.seat found.1 c.requires.works c.requires.region found.0
+
+pub returns-in-Did-clause-returned : goal.returns-in-Did-clause-returned
+returns-in-Did-clause-returned c =
+    let own = c.args.own in let old = c.args.seat.now in let new = c.give.new.seat in let did = c.in-Did in
+    subst (λ (p : Pending). given old + 1 ≤ given_with new p) (sym c.nothing.ensures)
+    (gave_given c.args.pool.now old new c.requires.works.seat did.ensures.seat (Arena own.id.place.arena) did._number
+    own.id did.ensures.did)
+
+pub returns-in-Held-clause-returned : goal.returns-in-Held-clause-returned
+returns-in-Held-clause-returned c =
+    let pool = c.args.pool.now in let old = c.args.seat.now in let new = c.give.new.seat in
+    let held = c.in-Held in
+    let le = later_given pool old new
+    (later_has pool old new held.ensures.same c.requires.works.seat held.ensures.seat held.ensures.held.1.marked) in
+    omega (arith, le)

@@ -1,7 +1,8 @@
-use Rattle.std.proofs.Common.{sym, subst, rules}
+use Rattle.std.proofs.Common.{◌≤◌, sym, subst, rules}
 use Rattle.seat_work.specs.Works.{Works}
 use Rattle.pool_member.specs.declared.pending.Pending.{Pending}
 use Rattle.pool_member.specs.Pendings.{hand_of, owed, IsPending, PutsAway}
+use Rattle.pool_member.specs.Returns.{given_with}
 use Rattle.pool_member.proofs.Keeping.{may_finish}
 use Rattle.pool_member.proofs.Settling.{settles, settles_none}
 use Rattle.pool_member.proofs.work.settling.try_settle.Goals as goal
@@ -27,6 +28,10 @@ returns-clause-settles c =
     subst (λ (p : Pending). PutsAway pool (owed p) old.seat call.new.seat c.keep.new.pending)
     c.replace-pending.ensures.value
     (subst (λ (p : Pending). PutsAway pool (owed c.replace-pending.result) old.seat call.new.seat p)
-    (sym c.keep.ensures) call.ensures) in
+    (sym c.keep.ensures) call.ensures.away) in
     settles pool old call.new.seat c.keep.new.pending c.requires.thread
     (λ settled. search (rules, c.is_nothing.ensures.1 settled)) away
+    (subst (λ (p : Pending). given_with old.seat p ≤ given_with call.new.seat c.keep.new.pending)
+    c.replace-pending.ensures.value
+    (subst (λ (p : Pending). given_with old.seat c.replace-pending.result ≤ given_with call.new.seat p)
+    (sym c.keep.ensures) call.ensures.returned))

@@ -13,6 +13,7 @@ use Rattle.seat_work.proofs.Later.{later_busy, later_none, later_noted, quiet_hi
 use Rattle.seat_work.proofs.Proceeding.{works_after}
 use Rattle.seat_tries.proofs.Goings.{works_less}
 use Rattle.pool_member.proofs.Pendings.{away_then, none_away}
+use Rattle.pool_member.proofs.Returns.{later_given, marked_given}
 use Rattle.pool_member.proofs.Trims.{any_here}
 use Rattle.pool_member.proofs.work.trimming.shed_one.Goals as goal
 
@@ -40,13 +41,16 @@ pub returns-in-Did-default-Some : goal.returns-in-Did-default-Some
 returns-in-Did-default-Some c =
     let pool = c.args.pool.now in let old = c.args.seat.now in let mid = c.pop_cached.new.seat in
     let did = c.in-Did-default-Some in let works = c.requires.works in let next = c.give in
-    away_then pool old mid next.new.seat (hand_with None (Some did.region)) 1 1 2 next.result
-    (later_noted pool old mid did.ensures.same works.seat did.ensures.seat did.ensures.did (quiet_hit _))
-    (omega arith)
-    (popped_region pool old mid did.ensures.seat did._number None c.args.class (Some did.region)
-    (works_less pool empty_hand 2 0 1 0 old works (omega arith) (omega arith))
-    (subst (λ (o : Option Region). IsNoted pool old mid (Cache (lane_of old) c.args.class) did._number (plain (hit o)))
-    did.field-1-is did.ensures.did)) next.ensures
+    let later = later_noted pool old mid did.ensures.same works.seat did.ensures.seat did.ensures.did (quiet_hit _) in
+    let le = later_given pool old mid later in (
+      away_then pool old mid next.new.seat (hand_with None (Some did.region)) 1 1 2 next.result later (omega arith)
+          (popped_region pool old mid did.ensures.seat did._number None c.args.class (Some did.region)
+          (works_less pool empty_hand 2 0 1 0 old works (omega arith) (omega arith))
+          (subst (λ (o : Option Region).
+          IsNoted pool old mid (Cache (lane_of old) c.args.class) did._number (plain (hit o))) did.field-1-is
+          did.ensures.did)) next.ensures.away,
+      omega (arith, le, next.ensures.returned),
+    )
 
 -- the cache is empty
 pub returns-in-Did-default-None : goal.returns-in-Did-default-None
@@ -81,4 +85,5 @@ returns-in-Held c =
           (works_less pool empty_hand 2 0 1 0 old works (omega arith) (omega arith)) held.ensures.held)
           (later_busy pool old mid held.ensures.same works.seat held.ensures.seat o held._held held.ensures.held),
       any_here pool old mid o held._held true works.seat held.ensures.seat held.ensures.held,
+      marked_given pool old mid works.seat held.ensures.seat o held._held held.ensures.held,
     )

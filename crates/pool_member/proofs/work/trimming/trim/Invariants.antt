@@ -1,5 +1,11 @@
-use Rattle.pool_member.specs.Trims.{HasTrimmed}
+use Rattle.pool_member.specs.Threads.{IsSettled}
+use Rattle.pool_member.specs.Trims.{AreEmpty, HasPaid, HasTrimmed}
 use Rattle.pool_member.proofs.work.trimming.trim.Given as goal
 
-abbrev pub invariant-loop : goal.invariant-loop
-invariant-loop g l = HasTrimmed l.pool l.fn.member l.member
+abbrev pub invariant-loop-class : goal.invariant-loop-class
+invariant-loop-class g l = record {
+  trimmed : HasTrimmed l.pool l.fn.member l.member;
+  settled : IsSettled l.member;
+  paid : HasPaid l.class l.fn.member l.member;
+  empty : AreEmpty l.pool l.class l.fn.member.seat l.member.seat;
+}
