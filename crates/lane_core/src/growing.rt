@@ -261,7 +261,7 @@ fn put_away(
             write(log, at(cache, number, Did::Kept(id)));
             StageStep::Done(Regrown::Has(capacity))
         }
-        Went::Did(number, Put::Back(no, region)) => {
+        Went::Did(number, Put::Back(region, no)) => {
             write(log, at(cache, number, Did::Back { region: id, no }));
             StageStep::More(Growing::Give(capacity, region))
         }

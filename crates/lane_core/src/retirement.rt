@@ -93,7 +93,7 @@ fn put_away(
             write(log, at(cache, number, Did::Kept(id)));
             StageStep::More(Ending::Home(handle))
         }
-        Went::Did(number, Put::Back(no, region)) => {
+        Went::Did(number, Put::Back(region, no)) => {
             write(log, at(cache, number, Did::Back { region: id, no }));
             StageStep::More(Ending::Arena(region, handle))
         }

@@ -65,7 +65,7 @@ fn put_cached(pool: &SharedPool, seat: &mut PoolSeat, handle: Handle, own: Regio
 {
     match pool.put_cached(seat, own) {
         Went::Did(_number, Put::Kept) => put_handle(pool, seat, handle),
-        Went::Did(_number, Put::Back(_no, region)) => give_region(pool, seat, handle, region),
+        Went::Did(_number, Put::Back(region, _no)) => give_region(pool, seat, handle, region),
         Went::Held(_held, region) => give_region(pool, seat, handle, region),
     }
 }

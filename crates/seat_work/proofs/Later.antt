@@ -136,7 +136,7 @@ quiet_taken class (Some r) = refl
 
 pub quiet_put : (id : RegionId) (put : Put) → is_still (was_put id put) ≡ true
 quiet_put id Kept = refl
-quiet_put id (Back why r) = refl
+quiet_put id (Back r why) = refl
 
 -- ---- Seats that go on.
 

@@ -54,7 +54,7 @@ fn put_away(
 {
     match pool.put_cached(seat, region) {
         Went::Did(_note, Put::Kept) => StageStep::More(Ending::Home(handle)),
-        Went::Did(_note, Put::Back(_no, region)) => StageStep::More(Ending::Arena(region, handle)),
+        Went::Did(_note, Put::Back(region, _no)) => StageStep::More(Ending::Arena(region, handle)),
         Went::Held(_held, region) => StageStep::More(Ending::Arena(region, handle)),
     }
 }

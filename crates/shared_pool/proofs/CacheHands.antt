@@ -231,7 +231,7 @@ puts_down w v o h r p d is did has =
   where
     by : (p : Put) → PutsDown (entered v o h (length h)) (was_put r p)
     by Kept = record { taking = has.taking; uses = has.uses }
-    by (Back why x) = tt
+    by (Back x why) = tt
 
 -- and it is put at its own cache
 pub put_own : (r : RegionId) (p : Put) → is_own r.owner r.class (was_put r p) ≡ true
@@ -244,7 +244,7 @@ put_own r p = by p
     by : (p : Put) → is_own r.owner r.class (was_put r p) ≡ true
     by Kept =
         both (eqb r.owner r.owner) (eqb r.class r.class) (eq-eqb r.owner r.owner refl) (eq-eqb r.class r.class refl)
-    by (Back why x) =
+    by (Back x why) =
         both (eqb r.owner r.owner) (eqb r.class r.class) (eq-eqb r.owner r.owner refl) (eq-eqb r.class r.class refl)
 
 -- what a pop notes may be noted at any lane's cache

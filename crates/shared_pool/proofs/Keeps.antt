@@ -80,7 +80,7 @@ taken_no_more class None = (refl, refl)
 
 pub put_no_more : (id : RegionId) (put : Put) → no_more (was_put id put)
 put_no_more id Kept = (refl, refl)
-put_no_more id (Back why r) = (refl, refl)
+put_no_more id (Back r why) = (refl, refl)
 
 -- what a call did that answered this
 pub did_at : {T B : Type 0} (P : ℕ → T → Type 0) (went : Went T B) (k : ℕ) (x : T) → went ≡ Did k x → IfDid went P

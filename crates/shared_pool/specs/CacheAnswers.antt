@@ -3,7 +3,6 @@ use Rattle.std.specs.Prelude.{◌≡◌, ℕ, List, [], ◌∷◌, ◌++◌}
 use Rattle.step_law.specs.Settings.{Setting}
 use Rattle.pool_law.specs.declared.id.Region.{Region}
 use Rattle.pool_law.specs.declared.id.RegionId.{RegionId}
-use Rattle.pool_law.specs.declared.note.CacheNo.{CacheNo}
 use Rattle.pool_law.specs.declared.note.Did.{Did}
 use Rattle.pool_law.specs.declared.note.Noted.{Noted}
 use Rattle.pool_law.specs.Places.{IsInPlace}
@@ -15,12 +14,12 @@ use Rattle.shared_pool.specs.Standing.{HomeStands, HasClassLength}
 -- what it noted
 abbrev pub was_put : RegionId → Put → Did
 was_put id Kept = Did.Kept id
-was_put id (Back why r) = Did.Back id why
+was_put id (Back r why) = Did.Back id why
 
 -- the region came back, and this holds of it
-abbrev pub IfBack : Put → (CacheNo → Region → Type 0) → Type 0
+abbrev pub IfBack : Put → (Region → Type 0) → Type 0
 IfBack Kept P = Unit {0}
-IfBack (Back why r) P = P why r
+IfBack (Back r why) P = P r
 
 -- wherever the value stands for a history, the region has the memory of its place, and is as long
 -- as its class says

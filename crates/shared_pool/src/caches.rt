@@ -72,7 +72,7 @@ impl SharedPool {
         ensures did { IfDid result (λ number put.
             IsNoted self.now seat.old seat.new (Cache region.id.owner region.id.class) number
             (plain (was_put region.id put))) }
-        ensures back { IfDid result (λ number put. IfBack put (λ no r. r ≡ region)) }
+        ensures back { IfDid result (λ number put. IfBack put (λ r. r ≡ region)) }
         ensures held { IfHeld result (λ held back. (back ≡ region)
             × FoundBusy self.now (Cache region.id.owner region.id.class) true
             seat.old seat.new held) }
@@ -226,14 +226,14 @@ fn put(section: &mut Section<Home>, region: Region) -> Put
     ensures cache { IsCache section.new.home }
     ensures stands { StandsMoreWith region section.old.home
         (was_put region.id result) section.new.home }
-    ensures back { IfBack result (λ no r. r ≡ region) }
+    ensures back { IfBack result (λ r. r ≡ region) }
 {
     let Home::Cache(cache) = Section::home(section) else {
         unreachable!()
     };
     match cache.put(region) {
         Ok(()) => Put::Kept,
-        Err((region, no)) => Put::Back(no, region),
+        Err((region, no)) => Put::Back(region, no),
     }
 }
 
@@ -244,7 +244,7 @@ fn answered(id: RegionId, put: &Put) -> Did
 {
     match put {
         Put::Kept => Did::Kept(id),
-        Put::Back(no, _) => Did::Back {
+        Put::Back(_, no) => Did::Back {
             region: id,
             no: *no,
         },

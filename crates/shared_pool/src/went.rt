@@ -18,7 +18,7 @@ pub enum Went<T, B> {
 /// What a cache did with a region that was put.
 pub enum Put {
     Kept,
-    Back(CacheNo, Region),
+    Back(Region, CacheNo),
 }
 
 /// What a release came to.

@@ -140,7 +140,7 @@ fn come_home(
     assert!(rt; class < CACHED_CLASSES);
     match pool.put_cached(seat, region) {
         Went::Did(number, Put::Kept) => assert_eq!(rt; number, 2),
-        Went::Did(_, Put::Back(_, region)) => {
+        Went::Did(_, Put::Back(region, _)) => {
             region.into_parts().1.leave();
             panic!(rt; "sent back")
         }

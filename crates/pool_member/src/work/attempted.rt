@@ -165,7 +165,7 @@ fn put_cached(pool: &SharedPool, seat: &mut PoolSeat, own: Region) -> Pending
 {
     match pool.put_cached(seat, own) {
         Went::Did(_number, Put::Kept) => nothing(),
-        Went::Did(_number, Put::Back(_no, region)) => give(pool, seat, region),
+        Went::Did(_number, Put::Back(region, _no)) => give(pool, seat, region),
         Went::Held(_held, region) => give(pool, seat, region),
     }
 }

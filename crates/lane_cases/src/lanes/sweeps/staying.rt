@@ -62,7 +62,7 @@ fn put(pool: &SharedPool, seat: &mut PoolSeat, beside: &Handle, region: Region) 
 {
     match pool.put_cached(seat, region) {
         Went::Did(_number, Put::Kept) => None,
-        Went::Did(_number, Put::Back(_no, region)) => Some(region),
+        Went::Did(_number, Put::Back(region, _no)) => Some(region),
         Went::Held(_held, region) => Some(region),
     }
 }

@@ -35,7 +35,7 @@ returns-in-Did-default-Back c =
     c.write-in-Did-default-Back in
     let noted = subst (λ (x : Put). IsNoted pool old new (Cache id.owner id.class) did.number
     (plain (was_put id x))) did.field-1-is did.ensures.did in
-    let back = subst (λ (x : Put). IfBack x (λ no r. r ≡ region)) did.field-1-is did.ensures.back in
+    let back = subst (λ (x : Put). IfBack x (λ r. r ≡ region)) did.field-1-is did.ensures.back in
     subst (λ (r : Region). HasGrown pool old new c.args.log.now wrote.new.log want.root want.size want.class
     (stage.Put capacity region) (More (stage.Give capacity r))) (sym back)
     (came_back pool old new want.root want.size want.class did.ensures.seat did.ensures.same capacity region

@@ -33,7 +33,7 @@ returns-in-Did-default-Back c =
     let note = c.at-in-Did-default-Back in let wrote = c.write-in-Did-default-Back in
     let noted = subst (λ (x : Put). IsNoted pool old new (Cache region.id.owner region.id.class) did.number
     (plain (was_put region.id x))) did.field-1-is did.ensures.did in
-    let back = subst (λ (x : Put). IfBack x (λ no r. r ≡ region)) did.field-1-is did.ensures.back in
+    let back = subst (λ (x : Put). IfBack x (λ r. r ≡ region)) did.field-1-is did.ensures.back in
     subst (λ (r : Region). HasEnded pool old new c.args.log.now wrote.new.log (AskCache region handle)
     (More (AskArena r handle))) (sym back)
     (came_back pool old new did.ensures.seat did.ensures.same did.number note.result c.args.log.now wrote.new.log

@@ -53,7 +53,7 @@ give_region-requires-clause-works c =
     let pool = c.args.pool.now in let old = c.args.seat.now in let mid = c.put_cached.new.seat in
     let did = c.in-Did-default-Back in let own = c.args.own in let place = c.args.handle.place in
     let hand = with_both place own.id in
-    let same : did.region ≡ own = subst (λ (x : Put). IfBack x (λ no r. r ≡ own)) did.field-1-is did.ensures.back in
+    let same : did.region ≡ own = subst (λ (x : Put). IfBack x (λ r. r ≡ own)) did.field-1-is did.ensures.back in
     subst (λ (r : Region). Works pool (with_both place r.id) 2 0 mid) (sym same)
     (works_after pool hand hand 3 0 1 0 2 0 old mid c.requires.works
     (back_region pool old mid did.ensures.seat did._number (Some place) own
@@ -67,7 +67,7 @@ returns-in-Did-default-Back c =
     let pool = c.args.pool.now in let old = c.args.seat.now in let mid = c.put_cached.new.seat in
     let did = c.in-Did-default-Back in let own = c.args.own in let place = c.args.handle.place in
     let hand = with_both place own.id in let next = c.give_region in
-    let same : did.region ≡ own = subst (λ (x : Put). IfBack x (λ no r. r ≡ own)) did.field-1-is did.ensures.back in
+    let same : did.region ≡ own = subst (λ (x : Put). IfBack x (λ r. r ≡ own)) did.field-1-is did.ensures.back in
     goes_then pool no_change hand 1 2 3 old mid next.new.seat next.result
     (later_noted pool old mid did.ensures.same c.requires.works.seat did.ensures.seat did.ensures.did
     (quiet_put own.id _)) (omega arith)

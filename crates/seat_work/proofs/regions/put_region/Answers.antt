@@ -36,7 +36,7 @@ returns-in-Did-default-Back-clause-proceeds c =
     let pool = c.args.pool.now in let old = c.args.seat.now in let new = c.put_cached.new.seat in
     let did = c.in-Did-default-Back in let region = c.args.region in
     let place = option_map (λ h. h.now.place) c.args.beside in
-    let same : did.region ≡ region = subst (λ (x : Put). IfBack x (λ no r. r ≡ region)) did.field-1-is
+    let same : did.region ≡ region = subst (λ (x : Put). IfBack x (λ r. r ≡ region)) did.field-1-is
     did.ensures.back in
     subst (λ (r : Region). Proceeds pool (hand_with place (Some r)) 1 0 no_change old new) (sym same)
     (back_region pool old new did.ensures.seat did._number place region c.requires.works did._no

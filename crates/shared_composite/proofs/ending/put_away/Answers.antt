@@ -25,7 +25,7 @@ returns-in-Did-default-Back c =
     c.in-Did-default-Back in let region = c.args.region in let handle = c.args.handle in
     let noted = subst (λ (x : Put). IsNoted pool old new (Cache region.id.owner region.id.class) did._note
     (plain (was_put region.id x))) did.field-1-is did.ensures.did in
-    let back = subst (λ (x : Put). IfBack x (λ no r. r ≡ region)) did.field-1-is did.ensures.back in
+    let back = subst (λ (x : Put). IfBack x (λ r. r ≡ region)) did.field-1-is did.ensures.back in
     subst (λ (r : Region). HasEnded pool old new (AskCache region handle) (More (AskArena r handle))) (sym back)
     (came_back pool old new did.ensures.seat did.ensures.same did._note handle region did._no c.requires noted)
 

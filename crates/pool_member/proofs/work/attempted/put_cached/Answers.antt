@@ -41,7 +41,7 @@ pub give-requires-clause-works : goal.give-requires-clause-works
 give-requires-clause-works c =
     let pool = c.args.pool.now in let old = c.args.seat.now in let mid = c.put_cached.new.seat in
     let did = c.in-Did-default-Back in let own = c.args.own in let hand = hand_with None (Some own) in
-    let same : did.region ≡ own = subst (λ (x : Put). IfBack x (λ no r. r ≡ own)) did.field-1-is did.ensures.back in
+    let same : did.region ≡ own = subst (λ (x : Put). IfBack x (λ r. r ≡ own)) did.field-1-is did.ensures.back in
     subst (λ (r : Region). Works pool (hand_with None (Some r)) 1 0 mid) (sym same)
     (works_after pool hand hand 2 0 1 0 1 0 old mid c.requires.works
     (back_region pool old mid did.ensures.seat did._number None own

@@ -23,7 +23,7 @@ pub returns-in-Did-default-Back-clause-proceeds : goal.returns-in-Did-default-Ba
 returns-in-Did-default-Back-clause-proceeds c =
     let pool = c.args.pool.now in let old = c.args.seat.now in let new = c.put_cached.new.seat in
     let did = c.in-Did-default-Back in let region = c.args.region in let place = c.args.beside.now.place in
-    let same : did.region ≡ region = subst (λ (x : Put). IfBack x (λ no r. r ≡ region)) did.field-1-is
+    let same : did.region ≡ region = subst (λ (x : Put). IfBack x (λ r. r ≡ region)) did.field-1-is
     did.ensures.back in
     subst (λ (r : Region). Proceeds pool (with_both place r.id) 1 0 no_change old new) (sym same)
     (back_region pool old new did.ensures.seat did._number (Some place) region c.requires.works did._no
@@ -34,7 +34,7 @@ returns-in-Did-default-Back-clause-proceeds c =
 pub returns-in-Did-default-Back-clause-same : goal.returns-in-Did-default-Back-clause-same
 returns-in-Did-default-Back-clause-same c =
     let did = c.in-Did-default-Back in let region = c.args.region in
-    let same : did.region ≡ region = subst (λ (x : Put). IfBack x (λ no r. r ≡ region)) did.field-1-is
+    let same : did.region ≡ region = subst (λ (x : Put). IfBack x (λ r. r ≡ region)) did.field-1-is
     did.ensures.back in
     ap (λ (r : Region). r.id) same
 
