@@ -106,6 +106,10 @@ fn notes_of(
             None => return Err(words.refused(LineNo::Form)),
         }
     }
+    // Each lane closes its caches, so each has notes.
+    if all.iter().any(|log| log.is_empty()) {
+        return Err(refused(to));
+    }
     Ok(all)
 }
 
