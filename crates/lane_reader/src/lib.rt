@@ -10,6 +10,7 @@ mod bound;
 mod byte_rows;
 mod candidate;
 mod carrying;
+mod causes;
 mod composite;
 mod composite_rows;
 mod count_rows;

@@ -1,20 +1,12 @@
 //! Why a command is refused before it notes anything.
 
-ghost use Rattle.std.specs.Prelude.{◌≡◌, Bool, Option, IfSome, map, option_map};
+ghost use Rattle.std.specs.Prelude.{◌≡◌, Bool, map, option_map};
 ghost use Rattle.pool_law.specs.declared.run.Shape.{Shape};
-ghost use Rattle.pool_law.specs.Composites;
-ghost use Rattle.pool_law.specs.LaneStates.{LaneState};
-ghost use Rattle.pool_law.specs.Refusals.{first_refusal, unbound, taken, composite, plain};
-ghost use Rattle.pool_law.specs.Refusals.{illegal, uncounted, range, read_range, write_range};
-ghost use Rattle.pool_law.specs.Refusals.{is_too_long};
-ghost use Rattle.lane_reader.specs.Candidates.{IsCandidate};
-ghost use Rattle.lane_reader.specs.Refusing.{refusal_of, some_comes, IsRead, Refuses, RefusesWith};
+ghost use Rattle.pool_law.specs.Refusals.{first_refusal};
+ghost use Rattle.lane_reader.specs.Refusing.{refusal_of, Refuses, RefusesWith};
 ghost use Rattle.lane_reader.specs.Replying.{reply_of};
-ghost use Rattle.lane_reader.specs.Standing.{IsLane};
 
-use crate::bound::Bound;
 use crate::candidate::Candidate;
-use crate::composite::MOST_PARTS;
 use crate::lane::Lane;
 use crate::replies::Refused;
 use crate::setting::Setting;
@@ -32,141 +24,7 @@ fn first_of(refusals: &[(Refused, bool)]) -> Option<Refused>
     None
 }
 
-impl Setting<'_> {
-    // The composite is too long, or no chunk holds it where it is consolidated.
-    fn is_too_long(&self, candidate: &Candidate) -> bool
-        ensures { (o : Option Composites.Composite) → IfSome o IsRead
-            → IsCandidate o candidate.now → result ≡ is_too_long self.now.shape.now o }
-    {
-        match candidate {
-            Candidate::Missing => false,
-            Candidate::TooLong => true,
-            Candidate::Made(composite) => {
-                composite.parts.len() > MOST_PARTS
-                    && self.classes.class_of(composite.writer).is_none()
-            }
-        }
-    }
-}
-
 impl Lane {
-    // The name isn't bound.
-    fn unbound(&self, name: u32) -> bool
-        ensures { (s : LaneState) → IsLane self.now s → result ≡ (unbound s name).comes }
-    {
-        self.named(name).is_none()
-    }
-
-    // The new name is bound.
-    fn taken(&self, fresh: u32) -> bool
-        ensures { (s : LaneState) → IsLane self.now s → result ≡ (taken s fresh).comes }
-    {
-        self.named(fresh).is_some()
-    }
-
-    // The name is bound to a composite.
-    fn composite(&self, name: u32) -> bool
-        ensures { (s : LaneState) → IsLane self.now s → result ≡ (composite s name).comes }
-    {
-        matches!(self.named(name), Some(Bound::Composed(_)))
-    }
-
-    // The name is bound to a view.
-    fn plain(&self, name: u32) -> bool
-        ensures { (s : LaneState) → IsLane self.now s → result ≡ (plain s name).comes }
-    {
-        matches!(self.named(name), Some(Bound::Plain(_)))
-    }
-
-    // The composite has ended, or the lane has no count of a root that the name's bytes lie in.
-    fn illegal(&self, name: u32) -> bool
-        ensures { (s : LaneState) → IsLane self.now s → result ≡ (illegal s name).comes }
-    {
-        match self.named(name) {
-            Some(bound) => !self.is_usable(bound),
-            None => false,
-        }
-    }
-
-    // The lane has no count of the name's root, or the composite has ended.
-    fn uncounted(&self, name: u32) -> bool
-        ensures { (s : LaneState) → IsLane self.now s → result ≡ (uncounted s name).comes }
-    {
-        match self.named(name) {
-            Some(bound) => !self.is_counted(bound),
-            None => false,
-        }
-    }
-
-    // The range leaves what the name is bound to.
-    fn range(&self, name: u32, index: u32, len: usize) -> bool
-        ensures { (s : LaneState) → IsLane self.now s → result ≡ (range s name index len).comes }
-    {
-        match self.named(name) {
-            Some(bound) => !bound.has_range(index, len),
-            None => false,
-        }
-    }
-
-    // So much can't be read.
-    fn read_range(&self, name: u32, len: u32) -> bool
-        ensures { (s : LaneState) → IsLane self.now s → result ≡ (read_range s name len).comes }
-    {
-        match self.named(name) {
-            Some(bound) => !bound.has_to_read(len),
-            None => false,
-        }
-    }
-
-    // So much can't be written.
-    fn write_range(&self, name: u32, len: usize) -> bool
-        ensures { (s : LaneState) → IsLane self.now s → result ≡ (write_range s name len).comes }
-    {
-        match self.named(name) {
-            Some(bound) => !bound.has_room(len),
-            None => false,
-        }
-    }
-
-    // One of the names isn't bound.
-    fn some_unbound(&self, names: &[u32]) -> bool
-        ensures { (s : LaneState) → IsLane self.now s
-            → result ≡ some_comes (map (unbound s) names.now) }
-    {
-        for name in names {
-            if self.unbound(*name) {
-                return true;
-            }
-        }
-        false
-    }
-
-    // One of the names is bound to a composite.
-    fn some_composite(&self, names: &[u32]) -> bool
-        ensures { (s : LaneState) → IsLane self.now s
-            → result ≡ some_comes (map (composite s) names.now) }
-    {
-        for name in names {
-            if self.composite(*name) {
-                return true;
-            }
-        }
-        false
-    }
-
-    // One of the names can't be used.
-    fn some_illegal(&self, names: &[u32]) -> bool
-        ensures { (s : LaneState) → IsLane self.now s
-            → result ≡ some_comes (map (illegal s) names.now) }
-    {
-        for name in names {
-            if self.illegal(*name) {
-                return true;
-            }
-        }
-        false
-    }
-
     // Why an allocation is refused.
     fn alloc_refused(&self, setting: &Setting, fresh: u32, size: u32) -> Option<Refused>
         ensures { Refuses setting.now.shape.now self.now (Command.Alloc fresh size) result }
