@@ -2,7 +2,7 @@
 
 use crate::draws::Draws;
 use crate::held::{Held, keep};
-use crate::rounds::Desk;
+use crate::rounds::Caller;
 use crate::tally::count;
 use buffer_pool::{Back, Parcel, PoolName, PoolThread, TryBack, TryNo, Unsent};
 use std::sync::Wait;
@@ -11,7 +11,7 @@ use std::sync::Wait;
 /// another sleeps.
 const MOST_ON_WAY: u64 = 32;
 
-impl<'a, B: PoolName, R: Wait> Desk<'a, B, R> {
+impl<'a, B: PoolName, R: Wait> Caller<'a, B, R> {
     // A buffer goes to any thread, maybe this one. What is known of it is told before.
     pub(crate) fn send(
         &self,

@@ -23,7 +23,7 @@ mod tally;
 
 use draws::Draws;
 use held::leave_all;
-use rounds::Desk;
+use rounds::Caller;
 use tally::{Tally, read};
 
 /// How many calls each thread makes where no word says it.
@@ -52,7 +52,7 @@ struct Hammer {
 
 impl<R: Wait> Work<R> for Hammer {
     fn work<B: PoolName>(&self, rt: &R, pool: &Pool<B>, mails: &Mails<B>, me: &mut PoolThread<B>) {
-        let desk = Desk {
+        let caller = Caller {
             rt,
             alloc: self.alloc,
             pool,
@@ -62,7 +62,7 @@ impl<R: Wait> Work<R> for Hammer {
         let mut draws = Draws::of(self.start, me.number());
         let mut held = Vec::new(self.alloc);
         for _call in 0..self.calls {
-            desk.round(me, &mut draws, &mut held);
+            caller.round(me, &mut draws, &mut held);
         }
         me.settle(rt, pool);
         leave_all(held);

@@ -18,9 +18,9 @@ const SMALL: u32 = 700;
 
 const LARGE: u32 = 40;
 
-/// With what a thread works.
+/// What a thread makes its calls with.
 #[derive(Drop)]
-pub struct Desk<'a, B: PoolName, R> {
+pub struct Caller<'a, B: PoolName, R> {
     pub rt: &'a R,
     pub alloc: Global,
     pub pool: &'a Pool<B>,
@@ -28,7 +28,7 @@ pub struct Desk<'a, B: PoolName, R> {
     pub tally: &'a Tally,
 }
 
-impl<'a, B: PoolName, R: Wait> Desk<'a, B, R> {
+impl<'a, B: PoolName, R: Wait> Caller<'a, B, R> {
     pub(crate) fn must(&self, is_so: bool, what: &'static str) {
         self.tally.must(self.rt, is_so, what);
     }
