@@ -3,8 +3,8 @@ use Rattle.std.specs.Prelude.{length}
 use Rattle.pool_law.specs.declared.command.Command.{Command}
 use Rattle.pool_law.specs.LaneStates.{LaneState}
 use Rattle.lane_core.specs.declared.context.Context.{Context}
-use Rattle.lane_core.specs.declared.lane.Prepared.{Prepared}
-use Rattle.lane_core.specs.declared.lane.Prepared.TheVariants.{Work, Access, Alone}
+use Rattle.lane_core.specs.declared.prepared.Prepared.{Prepared}
+use Rattle.lane_core.specs.declared.prepared.Prepared.TheVariants.{Work, Access, Alone}
 use Rattle.lane_core.specs.Accesses.{BindsBelow, IsAccess, IsPrepared, IsState}
 use Rattle.lane_core.specs.Works.{IsPlanned, IsReady, IsUnplanned}
 

@@ -1,43 +1,35 @@
 //! What a lane works with: its seat, its names, its counts, and the log that it writes.
 
-ghost use Rattle.std.specs.Prelude.{◌≡◌, ◌≢◌, ◌+◌, ◌-◌, ◌<◌, [], ◌∷◌, length, Some, vec_capacity};
+ghost use Rattle.std.specs.Prelude.{◌≡◌, ◌<◌, [], ◌∷◌, length, vec_capacity};
 ghost use Rattle.pool_law.specs.LaneLaw.{sweep_period};
-ghost use Rattle.pool_law.specs.Composites.{Composite};
 ghost use Rattle.pool_law.specs.LaneStates.{LaneState};
 ghost use Rattle.pool_law.specs.declared.command.Command.{Command};
 ghost use Rattle.seat_work.specs.Hands.{empty_hand};
 ghost use Rattle.lane_core.specs.Accesses.{IsState, IsAccess, reply_for};
-ghost use Rattle.lane_core.specs.ContextSteps.{CanAnswer, Concludes, HasNoted, HasReplied, MayTurn, Turns};
+ghost use Rattle.lane_core.specs.ContextSteps.{CanAnswer, Concludes, HasNoted, HasReplied};
 ghost use Rattle.lane_core.specs.declared.context.Turn.{Turn};
-ghost use Rattle.shared_pool.specs.declared.pool.SharedPool.{SharedPool};
 ghost use Rattle.lane_core.specs.Named.{NamesAre};
-ghost use Rattle.lane_core.specs.Drainings as draining;
-ghost use Rattle.lane_core.specs.Allotments as allotment;
-ghost use Rattle.lane_core.specs.Contexts.{IsContext, hand_of, Fits, FitsContext, HasRoomFor, left_for, left_from, left_draining, IsUnderway, NameFits, HasTurned, HasTurnedClosing};
+ghost use Rattle.lane_core.specs.Contexts.{IsContext, hand_of, Fits, FitsContext, HasRoomFor, left_for, left_from, IsUnderway, NameFits, HasTurned};
 ghost use Rattle.lane_core.specs.Works.{IsUnplanned};
 ghost use Rattle.lane_core.specs.declared.context.Stage.{Stage};
-ghost use Rattle.lane_core.specs.declared.draining.DrainKind.TheVariants.{Close};
-ghost use Rattle.lane_core.specs.declared.draining.Draining.{Draining};
 
 use crate::access::Refusal;
-use crate::allotment::{Allotted, Allotting, allot};
-use crate::bound::Bound;
+use crate::allotment::Allotting;
 use crate::composed::{Composed, Marks};
 use crate::copying::Copying;
 use crate::counts::OwnCounts;
 use crate::crossing::Crossing;
-use crate::draining::{DrainKind, Draining, Drains, drain};
+use crate::draining::Draining;
 use crate::growing::Growing;
 use crate::names::Names;
-use crate::notes::{at, write};
+use crate::notes::write;
 use crate::releasing::Releasing;
-use crate::retirement::{Ending, end};
-use crate::stage_step::StageStep;
+use crate::retirement::Ending;
 use crate::work::Consolidation;
 use byte_view::View;
 use leak_records::Sampler;
 use pool_law::{Answered, Command, Held, Note, Part, Reply, Shape};
-use shared_pool::{PoolSeat, Release, SharedPool, Went};
+use shared_pool::{PoolSeat, SharedPool};
 use size_classes::SizeClasses;
 use std::sync::Wait;
 
@@ -144,17 +136,6 @@ fn reply_of(refusal: Refusal) -> Reply
         Refusal::Range => Reply::Range,
         Refusal::Plain => Reply::Plain,
         Refusal::TooLarge => Reply::TooLarge,
-    }
-}
-
-// How many allocations asked a cache, with one that is about to do what its stage says.
-pub(crate) fn asked_with(stage: &Allotting, asked: u32) -> u32
-    requires { asked < 4294967295 }
-    ensures { result ≡ allotment.asks_of stage.now asked }
-{
-    match stage {
-        Allotting::Cache(_) => asked + 1,
-        _ => asked,
     }
 }
 
@@ -276,123 +257,6 @@ impl Context {
                 stage,
             } => self.regrow(pool, name, view, size, class, stage),
             _ => unreachable!(),
-        }
-    }
-
-    fn alloc(&mut self, pool: &SharedPool, name: u32, size: u32) -> Turn
-        requires may { MayTurn pool.now (left_for self.old.composes (Command.Alloc name size))
-            self.old }
-        requires name { name < length self.old.names }
-        ensures { Turns pool.now self.old self.new (Command.Alloc name size) result }
-    {
-        if let Some(_) = self.names.get(name) {
-            return self.refuse(Refusal::Taken);
-        }
-        let Some(class) = self.classes.class_of(size) else {
-            return self.answer(Reply::TooLarge);
-        };
-        self.allot(pool, name, size, class, Allotting::Handle)
-    }
-
-    /// Goes on with an allocation.
-    pub(crate) fn allot(
-        &mut self,
-        pool: &SharedPool,
-        name: u32,
-        size: u32,
-        class: u32,
-        stage: Allotting,
-    ) -> Turn
-        requires context { IsContext pool.now (allotment.hand_of stage) self.old }
-        requires fits { Fits pool.now self.old (Stage.Allotting name size class stage) }
-        requires room { HasRoomFor pool.now self.old (allotment.left_of stage) }
-        requires replies { length self.old.replies.items < vec_capacity self.old.replies }
-        requires name { name < length self.old.names }
-        ensures { (s : LaneState) (command : Command) → NamesAre s.names self.old.names →
-            let stage = Stage.Allotting name size class stage in
-            HasTurned pool.now self.old self.new s command stage result }
-    {
-        self.asked = asked_with(&stage, self.asked);
-        let step = allot(
-            pool,
-            &self.shape,
-            &mut self.seat,
-            &mut self.sampler,
-            &mut self.notes,
-            size,
-            class,
-            stage,
-        );
-        match step {
-            StageStep::More(stage) => Turn::Went(Stage::Allotting {
-                name,
-                size,
-                class,
-                stage,
-            }),
-            StageStep::Held(held, stage) => {
-                let next = Stage::Allotting {
-                    name,
-                    size,
-                    class,
-                    stage,
-                };
-                Turn::Pending(held, next)
-            }
-            StageStep::Done(Allotted::New(root, region)) => {
-                self.counts.add(root);
-                self.names.bind(name, Bound::Plain(View::of_root(root)));
-                self.conclude(Reply::OkPlace {
-                    size: region.place.len,
-                    place: region.place,
-                })
-            }
-            StageStep::Done(Allotted::NoHandle) => self.conclude(Reply::Handles),
-            StageStep::Done(Allotted::Full) => self.conclude(Reply::Full),
-        }
-    }
-
-    /// Goes on with a sweep of the caches, behind which the command has this reply.
-    pub(crate) fn sweep(&mut self, pool: &SharedPool, reply: Reply, stage: Draining) -> Turn
-        requires context { IsContext pool.now (hand_of (Stage.Sweeping reply stage)) self.old }
-        requires fits { Fits pool.now self.old (Stage.Sweeping reply stage) }
-        requires room { HasRoomFor pool.now self.old (left_draining self.old stage) }
-        requires replies { length self.old.replies.items < vec_capacity self.old.replies }
-        ensures { (s : LaneState) (command : Command) → NamesAre s.names self.old.names →
-            HasTurned pool.now self.old self.new s command (Stage.Sweeping reply stage) result }
-    {
-        match drain(
-            pool,
-            &mut self.seat,
-            &mut self.notes,
-            DrainKind::Trim,
-            stage,
-        ) {
-            Drains::More(stage) => match stage {
-                Draining::Done => self.answer(reply),
-                stage => Turn::Went(Stage::Sweeping { reply, stage }),
-            },
-            Drains::Held(held, stage) => Turn::Pending(held, Stage::Sweeping { reply, stage }),
-        }
-    }
-
-    /// Goes on with the closing of the caches.
-    pub(crate) fn close(&mut self, pool: &SharedPool, stage: Draining) -> Turn
-        requires context { IsContext pool.now (draining.hand_of Close stage) self.old }
-        requires fits { draining.Fits pool.now self.old.seat stage }
-        requires room { HasRoomFor pool.now self.old (left_draining self.old stage) }
-        requires more { stage ≢ Draining.Done }
-        ensures { HasTurnedClosing pool.now self.old self.new stage result }
-    {
-        match drain(
-            pool,
-            &mut self.seat,
-            &mut self.notes,
-            DrainKind::Close,
-            stage,
-        ) {
-            Drains::More(stage) => Turn::Went(Stage::Closing(stage)),
-            Drains::Held(held, stage) => Turn::Pending(held, Stage::Closing(stage)),
         }
     }
 

@@ -1,43 +1,28 @@
-//! A lane, which is stepped over its pool.
+//! A lane, which is stepped over its pool: how it is made, and what is left of it.
 
-ghost use Rattle.std.specs.Prelude.{◌≡◌, ◌+◌, ◌<◌, ◌≤◌, ◌&&◌, max, nat_le, Bool, [], length, IsSome, IfOk, IfErr, OnErr, Ok, ℕ};
-ghost use Rattle.pool_law.specs.declared.run.LaneLog.{LaneLog};
-ghost use Rattle.pool_law.specs.Limits.{IsShape, geometry_of};
+ghost use Rattle.std.specs.Prelude.{◌≡◌, ◌≤◌, Bool, [], length, IsSome, IfOk, IfErr, ℕ};
+ghost use Rattle.pool_law.specs.Limits.{IsShape};
 ghost use Rattle.shared_pool.specs.SeatViews.{view_of};
 ghost use Rattle.shared_pool.specs.declared.pool.SharedPool.{SharedPool};
 ghost use Rattle.shared_pool.specs.SeatLanes.{lane_of};
-ghost use Rattle.lane_core.specs.declared.lane.Stepped.TheVariants.{Went, Finished};
-ghost use Rattle.lane_core.specs.Lanes.{Heeds, IsLane, IsRunningLane, IsStoppedLane, IsFinished, SameLane, commands_of, noted_by, number_of, replies_of, seat_of};
+ghost use Rattle.lane_core.specs.Lanes.{Heeds, IsLane, IsFinished, commands_of, noted_by, replies_of, seat_of};
 ghost use Rattle.lane_core.specs.Opened.{IsFirstSeat, AreFirst, AreParts};
-ghost use Rattle.lane_core.specs.Steps.{HasStepped, at_stage, stepped_of};
-ghost use Rattle.pool_law.specs.LaneStates.{LaneState};
-ghost use Rattle.lane_core.specs.Accesses.{IsState};
-ghost use Rattle.lane_core.specs.Contexts.{FitsContext, left_for, next_of};
-ghost use Rattle.lane_core.specs.ContextSteps.{MayTurn, Turns};
-ghost use Rattle.lane_core.specs.Named.{AreComposites, AreInside, known_to};
-ghost use Rattle.lane_core.specs.Prepared.{IsPreparedFor};
-ghost use Rattle.lane_core.specs.declared.draining.Draining.{Draining};
-ghost use Rattle.lane_core.specs.declared.context.Stage.{Stage};
 
-use crate::access::{Access, prepare};
-use crate::context::{Context, Stage, Turn};
+mod stepping;
+
+use crate::context::{Context, Stage};
 use crate::counts::OwnCounts;
 use crate::draining::Draining;
-use crate::gate::{Gate, Pass};
 use crate::names::Names;
 use crate::notes::lane_of;
-use crate::planning::plan;
 use crate::room::{makes_composites, name_count, note_bound};
 use crate::spare::Spare;
 use crate::spending::spend;
-use crate::work::Work;
 use leak_records::Sampler;
-use pool_law::{Answered, Command, CommandList, Held, LaneLog, Note, NoteList, ReplyList, Shape};
-use shared_pool::{PoolSeat, SharedPool};
+use pool_law::{Answered, CommandList, Held, LaneLog, Note, NoteList, ReplyList, Shape};
+use shared_pool::PoolSeat;
 use size_classes::SizeClasses;
 use std::alloc::{AllocError, Global};
-use std::mem::replace;
-use std::sync::Wait;
 
 /// What a step did.
 pub enum Stepped {
@@ -118,168 +103,6 @@ impl Lane {
         })
     }
 
-    /// Does the next thing that the lane has to do. It notes at most one section or busy mark, and at
-    /// most one step on a reference word; by reading it enters no section that it doesn't note.
-    ///
-    /// The gate is asked once before each command, until it stops the lane. From then on each command
-    /// is answered `Stopped`, and a `send` still posts one empty parcel, so that no lane waits for
-    /// ever; nothing is fetched, and what the lane has bound and counts stays.
-    pub fn step<W: Wait, G: Gate>(
-        &mut self,
-        rt: &W,
-        alloc: Global,
-        pool: &SharedPool,
-        gate: &G,
-    ) -> Result<Stepped, AllocError>
-        requires lane { IsLane pool.now self.old }
-        ensures lane { IsLane pool.now self.new }
-        ensures same { SameLane self.old self.new }
-        ensures stepped { IfOk result (HasStepped pool.now self.old self.new) }
-        ensures finished { IsFinished self.old → result ≡ Ok Finished }
-        ensures err { OnErr result (self.new ≡ self.old) }
-        // A reply is `Stopped` exactly where the gate stops the lane at its line or an earlier one.
-        ensures heeds { let stops = G.stops gate.now (number_of self.old) in
-            Heeds stops self.old → Heeds stops self.new }
-    {
-        match replace(&mut self.stage, Stage::Ready) {
-            Stage::Ready => self.begin(rt, alloc, pool, gate),
-            Stage::Closing(stage) => Ok(self.close(pool, stage)),
-            stage => {
-                let turn = self.context.go_on(pool, stage);
-                Ok(self.after(turn))
-            }
-        }
-    }
-
-    // Begins the next command, or the closing.
-    fn begin<W: Wait, G: Gate>(
-        &mut self,
-        rt: &W,
-        alloc: Global,
-        pool: &SharedPool,
-        gate: &G,
-    ) -> Result<Stepped, AllocError>
-        requires lane { IsLane pool.now self.old }
-        requires ready { self.old.stage ≡ Stage.Ready }
-        ensures lane { IsLane pool.now self.new }
-        ensures same { SameLane self.old self.new }
-        ensures stepped { IfOk result (HasStepped pool.now self.old self.new) }
-        ensures err { OnErr result (self.new ≡ self.old) }
-        ensures heeds { let stops = G.stops gate.now (number_of self.old) in
-            Heeds stops self.old → Heeds stops self.new }
-    {
-        let stopped = self.stopped;
-        if stopped {
-            return Ok(self.pass_over(rt, pool));
-        }
-        self.carry_out(rt, alloc, pool, gate)
-    }
-
-    // Begins the next command, unless the gate stops the lane there, or the closing.
-    fn carry_out<W: Wait, G: Gate>(
-        &mut self,
-        rt: &W,
-        alloc: Global,
-        pool: &SharedPool,
-        gate: &G,
-    ) -> Result<Stepped, AllocError>
-        requires lane { IsRunningLane pool.now self.old }
-        requires ready { self.old.stage ≡ Stage.Ready }
-        ensures lane { IsLane pool.now self.new }
-        ensures same { SameLane self.old self.new }
-        ensures stepped { IfOk result (HasStepped pool.now self.old self.new) }
-        ensures err { OnErr result (self.new ≡ self.old) }
-        ensures heeds { let stops = G.stops gate.now (number_of self.old) in
-            Heeds stops self.old → Heeds stops self.new }
-    {
-        let line = self.context.replies.len();
-        let Some(command) = self.commands.items().get(line) else {
-            let turn = self.context.close(pool, Draining::Ask { class: 0 });
-            return Ok(self.after(turn));
-        };
-        let prepared = provide(alloc, &self.context, command)?;
-        let number = lane_of(&self.context.seat);
-        let stops = stops_at(gate, number, line, &mut self.asked);
-        if stops {
-            self.stopped = true;
-            return Ok(self.pass_over(rt, pool));
-        }
-        let turn = begin_with(rt, &mut self.context, pool, command, prepared);
-        Ok(self.after(turn))
-    }
-
-    // Passes the next command over, or begins the closing.
-    fn pass_over<W: Wait>(&mut self, rt: &W, pool: &SharedPool) -> Stepped
-        requires lane { IsStoppedLane pool.now self.old }
-        requires ready { self.old.stage ≡ Stage.Ready }
-        ensures lane { IsStoppedLane pool.now self.new }
-        ensures same { SameLane self.old self.new }
-        ensures stepped { HasStepped pool.now self.old self.new result }
-        ensures heeds { (stops : ℕ → Bool) → Heeds stops self.old → Heeds stops self.new }
-    {
-        let line = self.context.replies.len();
-        let Some(command) = self.commands.items().get(line) else {
-            let turn = self.context.close(pool, Draining::Ask { class: 0 });
-            return self.after(turn);
-        };
-        let turn = self.context.pass_over(rt, pool, command);
-        self.after(turn)
-    }
-
-    // Goes on with the closing, unless it is done.
-    fn close(&mut self, pool: &SharedPool, stage: Draining) -> Stepped
-        requires lane { IsLane pool.now (at_stage self.old (Stage.Closing stage)) }
-        requires ready { self.old.stage ≡ Stage.Ready }
-        ensures lane { IsLane pool.now self.new }
-        ensures same { SameLane (at_stage self.old (Stage.Closing stage)) self.new }
-        ensures stepped { HasStepped pool.now (at_stage self.old (Stage.Closing stage))
-            self.new result }
-        ensures finished { stage ≡ Draining.Done → result ≡ Finished }
-        ensures heeds { (stops : ℕ → Bool) → Heeds stops (at_stage self.old (Stage.Closing stage)) →
-            Heeds stops self.new }
-    {
-        match stage {
-            Draining::Done => {
-                self.put(Stage::Closing(Draining::Done));
-                Stepped::Finished
-            }
-            stage => {
-                let turn = self.context.close(pool, stage);
-                self.after(turn)
-            }
-        }
-    }
-
-    // Keeps what is to be done next, where nothing is kept.
-    fn put(&mut self, stage: Stage)
-        requires { self.old.stage ≡ Stage.Ready }
-        ensures { self.new ≡ at_stage self.old stage }
-    {
-        match replace(&mut self.stage, stage) {
-            Stage::Ready => {}
-            _ => unreachable!(),
-        }
-    }
-
-    // Keeps what is to be done next, and says what the turn came to.
-    fn after(&mut self, turn: Turn) -> Stepped
-        requires { self.old.stage ≡ Stage.Ready }
-        ensures next { self.new ≡ at_stage self.old (next_of Stage.Ready turn) }
-        ensures stepped { result ≡ stepped_of turn }
-    {
-        match turn {
-            Turn::Went(stage) => {
-                self.put(stage);
-                Stepped::Went
-            }
-            Turn::Pending(held, stage) => {
-                self.put(stage);
-                Stepped::Pending(held)
-            }
-            Turn::Waiting { from } => Stepped::Waiting { from },
-        }
-    }
-
     /// The seat of a lane in any state, with its log lost. What the lane had in hand is spent.
     pub fn abandon(self) -> PoolSeat
         ensures { result ≡ seat_of self }
@@ -345,70 +168,6 @@ impl Lane {
         };
         (commands, log, seat, spare)
     }
-}
-
-// What a command needs before its first note.
-#[derive(Drop)]
-enum Prepared {
-    /// It is one on a composite.
-    Work(Work),
-    /// It accesses the bytes of a view.
-    Access(Access),
-    /// Nothing.
-    Alone,
-}
-
-// Takes all memory that the command needs.
-fn provide(alloc: Global, context: &Context, command: &Command) -> Result<Prepared, AllocError>
-    requires composites { AreComposites context.now.composes (1 + length context.now.replies.items)
-        context.now.names }
-    requires inside { AreInside (known_to context.now.seat) context.now.names }
-    requires classes { context.now.classes ≡ geometry_of context.now.shape }
-    requires fits { FitsContext context.now command.now }
-    ensures { IfOk result (IsPreparedFor context.now command.now) }
-{
-    if let Some(work) = plan(alloc, context, command)? {
-        return Ok(Prepared::Work(work));
-    }
-    match prepare(alloc, &context.names, &context.counts, command)? {
-        Some(access) => Ok(Prepared::Access(access)),
-        None => Ok(Prepared::Alone),
-    }
-}
-
-// Begins the command with what it needs.
-fn begin_with<W: Wait>(
-    rt: &W,
-    context: &mut Context,
-    pool: &SharedPool,
-    command: &Command,
-    prepared: Prepared,
-) -> Turn
-    requires may { MayTurn pool.now (left_for context.old.composes command.now) context.old }
-    requires few { length context.old.replies.items < 65536 }
-    requires fits { FitsContext context.old command.now }
-    requires prepared { IsPreparedFor context.old command.now prepared }
-    requires state { (s : LaneState) × IsState s context.old.names context.old.counts }
-    ensures { Turns pool.now context.old context.new command.now result }
-{
-    match prepared {
-        Prepared::Work(work) => context.work(pool, work),
-        Prepared::Access(access) => context.access(pool, access),
-        Prepared::Alone => context.obey(rt, pool, command),
-    }
-}
-
-// Asks the gate for a line, unless it was asked and let it pass; answers whether it stops the lane.
-fn stops_at<G: Gate>(gate: &G, lane: u32, line: usize, asked: &mut usize) -> bool
-    requires few { line < 65536 }
-    ensures asked { asked.new ≡ max asked.old (line + 1) }
-    ensures stops { result ≡ nat_le asked.old line && G.stops gate.now lane line }
-{
-    if *asked > line {
-        return false;
-    }
-    *asked = line + 1;
-    gate.pass(lane, line as u32) == Pass::Stop
 }
 
 // What a lane is made of beside its commands and its seat.

@@ -4,6 +4,7 @@
 
 mod access;
 mod accessing;
+mod allocating;
 mod allotment;
 mod bound;
 mod composed;
@@ -22,6 +23,7 @@ mod notes;
 mod passing;
 mod planning;
 mod played;
+mod prepared;
 mod refusing;
 mod regrowing;
 mod releasing;
@@ -30,6 +32,7 @@ mod room;
 mod spare;
 mod spending;
 mod stage_step;
+mod sweeping;
 mod work;
 mod working;
 

@@ -9,10 +9,11 @@ ghost use Rattle.lane_core.specs.ContextSteps.{CanAnswer, Concludes, HasMarked, 
 ghost use Rattle.lane_core.specs.Works.{IsReady, WorkTurns, left_of};
 ghost use Rattle.lane_core.specs.declared.context.Stage.{Stage};
 
+use crate::allocating::asked_with;
 use crate::allotment::{Allotted, Allotting, allot};
 use crate::bound::Bound;
 use crate::composed::{Composed, Marks};
-use crate::context::{Context, Stage, Turn, asked_with};
+use crate::context::{Context, Stage, Turn};
 use crate::copying::{Copying, copy};
 use crate::crossing::{Crossed, Crossing, cross, next_of};
 use crate::releasing::{Releasing, release, unfinished};

@@ -5,7 +5,7 @@ use Rattle.lane_core.specs.declared.access.Access.{Access}
 use Rattle.lane_core.specs.declared.work.Work.{Work}
 use Rattle.lane_core.specs.Accesses.{BindsBelow, IsAccess, IsPrepared, IsState}
 use Rattle.lane_core.specs.Works.{IsPlanned, IsReady, IsUnplanned}
-use Rattle.lane_core.proofs.lane.provide.Goals as goal
+use Rattle.lane_core.proofs.prepared.provide.Goals as goal
 
 pub returns-in-Some : goal.returns-in-Some
 returns-in-Some c =

@@ -2,8 +2,8 @@ use Rattle.std.proofs.Common.{◌≡◌, ◌≤◌, Bool, true, false, arith, su
 use Rattle.pool_law.specs.declared.command.Command.{Command}
 use Rattle.shared_pool.specs.declared.pool.SharedPool.{SharedPool}
 use Rattle.lane_core.specs.declared.context.Context.{Context}
-use Rattle.lane_core.specs.declared.lane.Prepared.{Prepared}
-use Rattle.lane_core.specs.declared.lane.Prepared.TheVariants.{Work, Access, Alone}
+use Rattle.lane_core.specs.declared.prepared.Prepared.{Prepared}
+use Rattle.lane_core.specs.declared.prepared.Prepared.TheVariants.{Work, Access, Alone}
 use Rattle.lane_core.specs.Accesses.{IsAccess}
 use Rattle.lane_core.specs.Budgets.{notes_alone}
 use Rattle.lane_core.specs.Contexts.{left_for, HasRoomFor}
@@ -12,7 +12,7 @@ use Rattle.lane_core.specs.Prepared.{IsPreparedFor}
 use Rattle.lane_core.specs.Works.{left_of}
 use Rattle.lane_core.proofs.Carrying.{access_fits, may_within}
 use Rattle.lane_core.proofs.LaneRooms.{room_most}
-use Rattle.lane_core.proofs.lane.begin_with.Goals as goal
+use Rattle.lane_core.proofs.prepared.begin_with.Goals as goal
 
 -- an access may make a note
 access_notes : (composes : Bool) (command : Command) → IsAccess command → 1 ≤ (left_for composes command).notes
