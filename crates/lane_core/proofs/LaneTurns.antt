@@ -169,6 +169,8 @@ module _ (pool : SharedPool) (l : Lane) (lane : IsRunningLane pool l) (d : Conte
     same_log pool l lane.context d n (hand_of l.stage) t.added t.grew t.comes.1.none t.comes.1.replies l.stage,
     subst (λ (cs : List Command). ReceivesNext sender cs) (sym left) t.waits.0,
     t.waits.1,
+    lane.going,
+    lane.going,
   )
 
   pub turned_same : (turn : Turn) → Turned turn → SameLane l (lane_at l d (next_of l.stage turn) n)

@@ -1,5 +1,5 @@
 -- What the steps of a lane that its gate stopped come to.
-use Rattle.std.proofs.Common.{◌≡◌, ℕ, ◌<◌, ◌≤◌, List, [], ◌∷◌, Bool, true, length, map, sym, ap, ◌∙◌, subst, arith}
+use Rattle.std.proofs.Common.{◌≡◌, ℕ, ◌<◌, ◌≤◌, List, [], ◌∷◌, Bool, true, false, length, map, sym, ap, ◌∙◌, subst, arith}
 use Rattle.pool_law.specs.declared.command.Command.{Command}
 use Rattle.pool_law.specs.declared.run.Reply.{Reply}
 use Rattle.pool_law.specs.LaneLaw.{sweep_period}
@@ -173,6 +173,5 @@ stepped_anew pool l new n StepWent is so = record {
 }
 stepped_anew pool l new n (StepPending held) is so =
     (record { replies = so.0.replies; notes = so.0.notes }, so.1, so.2)
-stepped_anew pool l new n (StepWaiting sender) is so =
-    (record { replies = so.0.replies; notes = so.0.notes }, so.1, so.2)
+stepped_anew pool l new n (StepWaiting sender) is so = let never : true ≡ false = so.3 in absurd (cc never)
 stepped_anew pool l new n StepFinished is so = absurd (cc (is, so.0))

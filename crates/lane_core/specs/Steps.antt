@@ -57,8 +57,9 @@ NextStandsAt l object =
 
 -- what a step did, by its answer: where it went a reply was added, or what one section and one step
 -- on a count note, or both, and else nothing; where it is pending its claim found another seat at
--- the object of its next note; where it waits its command receives from that lane, and nothing that
--- was posted from there was unfetched; it is finished where all was done before
+-- the object of its next note; where it waits its command receives from that lane, nothing that was
+-- posted from there was unfetched, and its gate didn't stop it; it is finished where all was done
+-- before
 abbrev pub HasStepped : SharedPool → Lane → Lane → Stepped → Type 0
 HasStepped pool old new Went = LogGrew old new
 HasStepped pool old new (Pending held) =
@@ -67,6 +68,7 @@ HasStepped pool old new (Pending held) =
 HasStepped pool old new (Waiting sender) =
     SameLog old new × ReceivesNext sender (commands_left old)
     × IsDrained sender old.context.seat
+    × (old.stopped ≡ false) × (new.stopped ≡ false)
 HasStepped pool old new Finished = IsFinished old × (new ≡ old)
 
 -- the lane at another stage
