@@ -8,14 +8,16 @@
 
    A buffer is plain numbers. It belongs to the thread that got it and stands for one count of its
    bytes. Copied, changed or made up, it is refused as POOL_NOT_HERE, unless its thread has a count
-   of just these bytes: then the call uses that one. A buffer goes to another thread in a parcel,
-   `struct pool_parcel`, that the program carries by a channel of its own.
+   of the memory that its place and generation name: then the call uses such a count, and the window
+   is the one that the numbers say, as far as the thread knows that memory to reach. A buffer goes to
+   another thread in a parcel, `struct pool_parcel`, that the program carries by a channel of its own.
 
    What no call can test, and the caller keeps:
    - a `struct pool_thread` or `struct pool_parcel` was zeroed before its first use, was changed by
      calls of this header alone since, and isn't a copy of one that is used or was closed or left;
-   - `bytes`, `expected` and `out` point to `length` bytes of the caller's own, each other pointer to
-     a value of its type, and nothing that a call writes overlaps anything else that it is given;
+   - `bytes` and `out` point to `length` bytes of the caller's own, and aren't null where `length` is
+     0 either; each other pointer points to a value of its type, and nothing that a call writes
+     overlaps anything else that it is given;
    - pools that are open at once have different names (`struct pool_config`), and a parcel that a
      closed pool left behind is given to no later pool of its name: the name is what tells a handle,
      a buffer or a parcel of another pool.
@@ -24,7 +26,9 @@
 
    No call waits. Where another thread is at what a call needs just then, it answers POOL_BUSY:
    made again, it may do its work. A refused call changes nothing, but that a thread keeps what an
-   allocation or a release has begun: its next one, or pool_settle, goes on with it. */
+   allocation or a release has begun: its next one, or pool_settle, goes on with it; and that turns
+   are used: 6 by each pool_alloc and pool_capacity that is busy, full or worn, 2 by each step of
+   pool_trim. A thread has some 2^58 of them for its life. */
 #ifndef POOL_C_H
 #define POOL_C_H
 
@@ -42,7 +46,7 @@ enum {
     POOL_RANGE = 3,         /* the range passes an end of the buffer */
     POOL_SPENT = 4,         /* the thread has used up its turns or its moves */
     POOL_TOO_LARGE = 5,     /* more bytes than a chunk has */
-    POOL_NO_HANDLE = 6,     /* the thread has as many live buffers as it may */
+    POOL_NO_HANDLE = 6,     /* the thread has as many live buffers as it may, or places on their way home */
     POOL_FULL = 7,          /* the thread's arena has no such region left */
     POOL_WORN = 8,          /* the place of the next buffer is used up: call again for the next */
     POOL_NO_THREAD = 9,     /* the pool has no thread of that number */
@@ -119,8 +123,9 @@ int32_t pool_retain(struct pool_thread *thread, const struct pool_buffer *buffer
 int32_t pool_slice(struct pool_thread *thread, const struct pool_buffer *buffer, uint32_t start,
                    uint32_t length, struct pool_buffer *out);
 
-/* Gives the count of a buffer back. `ended` is 1 where it was the last of all threads and parcels:
-   the memory went back to the pool then; else 0. */
+/* Gives the count of a buffer back. `ended` is 1 where it was the last of all threads and parcels,
+   else 0. The memory then goes back to the pool, at once, or where another thread is in the way as
+   this one settles. */
 int32_t pool_release(struct pool_thread *thread, const struct pool_buffer *buffer, int32_t *ended);
 
 /* How often the buffer's bytes are counted over all threads and parcels, at one moment. */
