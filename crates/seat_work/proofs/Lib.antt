@@ -17,3 +17,10 @@ pub mod FirstSeats
 pub mod NotedCounts
 pub mod MailRooms
 pub mod Trials
+pub mod ReadLaws
+pub mod Noting
+pub mod PartReads
+pub mod GrowReads
+pub mod Handles
+pub mod RegionNotes
+pub mod GrowthNotes

@@ -4,5 +4,6 @@ pub mod Changes
 pub mod Capacities
 pub mod HandOvers
 pub mod Works
+pub mod Readings
 pub mod Answers
 pub mod Regrowths

@@ -1,15 +1,18 @@
 //! How a buffer is allocated: a handle, a region from the lane's cache or from its arena, and the
 //! birth of a root. (Netty: `PooledByteBufAllocator`, `PoolThreadCache`)
 
-ghost use Rattle.std.specs.Prelude.{◌≡◌, ◌*◌, ◌<◌, ◌≤◌, Some, IfSome, IfOk, IfErr};
+ghost use Rattle.std.specs.Prelude.{◌≡◌, ℕ, ◌*◌, ◌<◌, ◌≤◌, Some, IfSome, IfOk, IfErr};
 ghost use Rattle.size_classes.specs.Sizes.{class_of, size_at};
 ghost use Rattle.pool_law.specs.Limits.{geometry_of};
+ghost use Rattle.pool_law.specs.Patterns.{allot, bear as bears};
 ghost use Rattle.pool_law.specs.Views.{most_capacity};
 ghost use Rattle.pool_table.specs.Counts.{HasCount};
+ghost use Rattle.shared_pool.specs.SeatLanes.{lane_of};
 ghost use Rattle.shared_pool.specs.SeatViews.{view_of};
 ghost use Rattle.seat_work.specs.Hands.{empty_hand, IsHandle, IsRegion};
+ghost use Rattle.seat_work.specs.Readings.{NotesOn};
 ghost use Rattle.seat_work.specs.Works.{HasBorn, IsLater, Proceeds, Works};
-ghost use Rattle.seat_work.specs.Answers.{with_place, with_both, hand_got, handle_told, allocated, TookHandle, IsWorn, IsWornAt};
+ghost use Rattle.seat_work.specs.Answers.{with_place, with_both, hand_got, handle_told, allocated, with_arena, with_class, with_got, Allots, TookHandle, IsWorn, IsWornAt};
 
 use crate::birth::bear;
 use crate::ending::{put_handle, return_both};
@@ -53,6 +56,9 @@ pub fn allocate<W: Wait>(
     ensures born { IfOk result (λ root. HasBorn pool.now root seat.old seat.new) }
     ensures later { IsLater pool.now seat.old seat.new }
     ensures worn { IfErr result (IsWorn pool.now seat.old seat.new) }
+    ensures allots { let shape = pool.now.table.layout.shape in
+        Allots (allot shape (lane_of seat.old) size) class watch result
+        (view_of seat.old) (view_of seat.new) }
 {
     match pop_handle(rt, pool, seat) {
         Some(handle) => allocate_at(rt, pool, seat, handle, size, class, &watch),
@@ -73,6 +79,7 @@ fn allocate_at<W: Wait>(
 ) -> Result<RootId, AllocNo>
     requires works { Works pool.now (with_place handle.place) 5 0 seat.old }
     requires handle { IsHandle pool.now handle }
+    requires own { handle.lane ≡ lane_of seat.old }
     requires class { class_of (geometry_of pool.now.table.layout.shape) size ≡ Some class }
     ensures proceeds { Proceeds pool.now empty_hand 5 0 (allocated result) seat.old seat.new }
     ensures root { IfOk result (λ root. (root.capacity ≡ size) × HasCount root (view_of seat.new)) }
@@ -81,6 +88,9 @@ fn allocate_at<W: Wait>(
     ensures born { IfOk result (λ root. HasBorn pool.now root seat.old seat.new) }
     ensures later { IsLater pool.now seat.old seat.new }
     ensures worn { IfErr result (IsWornAt pool.now handle.place seat.old seat.new) }
+    ensures allots { let shape = pool.now.table.layout.shape in let lane = lane_of seat.old in
+        Allots (with_class shape lane class size handle.place) class watch.now result
+        (view_of seat.old) (view_of seat.new) }
 {
     if class >= CACHED_CLASSES {
         return allocate_taken(rt, pool, seat, handle, size, class, watch);
@@ -104,6 +114,7 @@ fn allocate_taken<W: Wait>(
 ) -> Result<RootId, AllocNo>
     requires works { Works pool.now (with_place handle.place) 4 0 seat.old }
     requires handle { IsHandle pool.now handle }
+    requires own { handle.lane ≡ lane_of seat.old }
     requires class { class_of (geometry_of pool.now.table.layout.shape) size ≡ Some class }
     ensures proceeds { Proceeds pool.now empty_hand 4 0 (allocated result) seat.old seat.new }
     ensures root { IfOk result (λ root. (root.capacity ≡ size) × HasCount root (view_of seat.new)) }
@@ -112,6 +123,9 @@ fn allocate_taken<W: Wait>(
     ensures born { IfOk result (λ root. HasBorn pool.now root seat.old seat.new) }
     ensures later { IsLater pool.now seat.old seat.new }
     ensures worn { IfErr result (IsWornAt pool.now handle.place seat.old seat.new) }
+    ensures allots { let shape = pool.now.table.layout.shape in let lane = lane_of seat.old in
+        Allots (with_arena shape lane class size handle.place) class watch.now result
+        (view_of seat.old) (view_of seat.new) }
 {
     match take_region(rt, pool, seat, Some(&handle), class) {
         Some(taken) => bear_or_return(rt, pool, seat, handle, taken, size, watch),
@@ -144,6 +158,9 @@ fn bear_or_return<W: Wait>(
     ensures born { IfOk result (λ root. HasBorn pool.now root seat.old seat.new) }
     ensures later { IsLater pool.now seat.old seat.new }
     ensures worn { IfErr result (IsWornAt pool.now handle.place seat.old seat.new) }
+    ensures allots { let lane = lane_of seat.old in
+        Allots (bears lane handle.place size (Some region.id)) region.id.class watch.now result
+        (view_of seat.old) (view_of seat.new) }
 {
     match bear(pool, seat, handle, region, size, watch) {
         Ok(root) => Ok(root),
@@ -164,6 +181,10 @@ fn pop_handle<W: Wait>(rt: &W, pool: &SharedPool, seat: &mut PoolSeat) -> Option
     ensures handle { IfSome result (IsHandle pool.now) }
     ensures later { IsLater pool.now seat.old seat.new }
     ensures took { IfSome result (λ h. TookHandle pool.now h.place seat.old seat.new) }
+    ensures own { IfSome result (λ h. h.lane ≡ lane_of seat.old) }
+    ensures reads { let shape = pool.now.table.layout.shape in let lane = lane_of seat.old in
+        (size : ℕ) → NotesOn (allot shape lane size) (with_got shape lane size result)
+        (view_of seat.old) (view_of seat.new) }
 {
     match pool.pop_handle(seat) {
         Went::Did(_number, handle) => handle,
@@ -180,6 +201,10 @@ fn wait_for_handle<W: Wait>(rt: &W, pool: &SharedPool, seat: &mut PoolSeat) -> O
     ensures handle { IfSome result (IsHandle pool.now) }
     ensures later { IsLater pool.now seat.old seat.new }
     ensures took { IfSome result (λ h. TookHandle pool.now h.place seat.old seat.new) }
+    ensures own { IfSome result (λ h. h.lane ≡ lane_of seat.old) }
+    ensures reads { let shape = pool.now.table.layout.shape in let lane = lane_of seat.old in
+        (size : ℕ) → NotesOn (allot shape lane size) (with_got shape lane size result)
+        (view_of seat.old) (view_of seat.new) }
 {
     for _ in rt.forever() {
         match pool.pop_handle(seat) {

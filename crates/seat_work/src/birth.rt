@@ -1,14 +1,16 @@
 //! The birth of a root from a handle and a region in hand.
 
-ghost use Rattle.std.specs.Prelude.{◌≡◌, ◌*◌, ◌<◌, ◌≤◌, IfOk, IfErr};
+ghost use Rattle.std.specs.Prelude.{◌≡◌, ◌*◌, ◌<◌, ◌≤◌, Some, IfOk, IfErr};
 ghost use Rattle.size_classes.specs.Sizes.{size_at};
+ghost use Rattle.pool_law.specs.Patterns.{bear as bears};
 ghost use Rattle.pool_table.specs.Counts.{HasCount};
+ghost use Rattle.shared_pool.specs.SeatLanes.{lane_of};
 ghost use Rattle.shared_pool.specs.SeatViews.{view_of};
 ghost use Rattle.shared_pool.specs.Wearing.{FoundWorn};
 ghost use Rattle.seat_work.specs.Hands.{empty_hand, IsHandle, IsRegion};
 ghost use Rattle.seat_work.specs.Changes.{no_change, once_more};
 ghost use Rattle.seat_work.specs.Works.{HasBorn, IsLater, Proceeds, Works};
-ghost use Rattle.seat_work.specs.Answers.{with_both};
+ghost use Rattle.seat_work.specs.Answers.{with_both, Bears};
 
 use handle_bin::Handle;
 use pool_law::{Region, RootId, Watch};
@@ -36,6 +38,9 @@ pub(crate) fn bear(
     ensures place { let shape = pool.now.table.layout.shape in
         IfOk result (λ root. root.place < shape.lanes * shape.handles) }
     ensures noted { IfOk result (λ root. HasBorn pool.now root seat.old seat.new) }
+    ensures reads { IfOk result (λ root.
+        Bears (bears (lane_of seat.old) handle.place capacity (Some region.id)) region.id.class
+        watch.now root (view_of seat.old) (view_of seat.new)) }
     ensures kept { IfErr result (λ worn.
         Proceeds pool.now (with_both worn.handle.place worn.region.id) 0 0 no_change
         seat.old seat.new) }

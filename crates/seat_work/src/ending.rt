@@ -2,9 +2,14 @@
 //! owner's cache or back to its arena, and the handle of its place goes home. (Netty:
 //! `PooledByteBuf.deallocate`)
 
+ghost use Rattle.pool_law.specs.declared.note.Object.TheVariants.{Bin};
+ghost use Rattle.pool_law.specs.Dids as says;
+ghost use Rattle.pool_law.specs.Readers.{note};
 ghost use Rattle.shared_pool.specs.RootNotes.{HoldsToken};
+ghost use Rattle.shared_pool.specs.SeatViews.{view_of};
 ghost use Rattle.seat_work.specs.Hands.{empty_hand, IsHandle, IsRegion};
 ghost use Rattle.seat_work.specs.Changes.{no_change};
+ghost use Rattle.seat_work.specs.Readings.{NotesAs};
 ghost use Rattle.seat_work.specs.Works.{Works, Proceeds, IsLater};
 ghost use Rattle.seat_work.specs.Answers.{with_token, with_place, with_both};
 
@@ -84,6 +89,8 @@ pub(crate) fn put_handle<W: Wait>(rt: &W, pool: &SharedPool, seat: &mut PoolSeat
     requires handle { IsHandle pool.now own }
     ensures proceeds { Proceeds pool.now empty_hand 1 0 no_change seat.old seat.new }
     ensures later { IsLater pool.now seat.old seat.new }
+    ensures reads { NotesAs (note (Bin own.lane) (says.home own.place)) tt
+        (view_of seat.old) (view_of seat.new) }
 {
     match pool.put_handle(seat, own) {
         Went::Did(_number, ()) => (),
@@ -98,6 +105,8 @@ fn wait_to_put_handle<W: Wait>(rt: &W, pool: &SharedPool, seat: &mut PoolSeat, o
     requires handle { IsHandle pool.now own }
     ensures proceeds { Proceeds pool.now empty_hand 1 0 no_change seat.old seat.new }
     ensures later { IsLater pool.now seat.old seat.new }
+    ensures reads { NotesAs (note (Bin own.lane) (says.home own.place)) tt
+        (view_of seat.old) (view_of seat.new) }
 {
     let mut handle = own;
     for _ in rt.forever() {

@@ -4,10 +4,14 @@
 ghost use Rattle.std.specs.Prelude.{◌≡◌, ◌<◌, None, Some, IfSome, option_map};
 ghost use Rattle.size_classes.specs.Sizes.{class_count};
 ghost use Rattle.pool_law.specs.Limits.{geometry_of, cached_classes};
+ghost use Rattle.pool_law.specs.Patterns.{ask_arena, ask_cache, give_back, offer, put_away as puts_away};
+ghost use Rattle.shared_pool.specs.SeatLanes.{lane_of};
+ghost use Rattle.shared_pool.specs.SeatViews.{view_of};
 ghost use Rattle.seat_work.specs.Hands.{IsRegion};
 ghost use Rattle.seat_work.specs.Changes.{no_change};
+ghost use Rattle.seat_work.specs.Readings.{NotesAs, NotesOn};
 ghost use Rattle.seat_work.specs.Works.{IsLater, Proceeds, Works};
-ghost use Rattle.seat_work.specs.Answers.{hand_with, region_told};
+ghost use Rattle.seat_work.specs.Answers.{hand_with, offers_on, region_told};
 
 use handle_bin::Handle;
 use pool_law::Region;
@@ -30,6 +34,8 @@ pub(crate) fn pop_region(
         Proceeds pool.now (hand_with place result) 1 0 no_change seat.old seat.new }
     ensures region { IfSome result (λ r. IsRegion pool.now seat.new r × (r.id.class ≡ class)) }
     ensures later { IsLater pool.now seat.old seat.new }
+    ensures reads { NotesAs (ask_cache (lane_of seat.old) class) (option_map (λ r. r.id) result)
+        (view_of seat.old) (view_of seat.new) }
 {
     match pool.pop_cached(seat, class) {
         Went::Did(_number, region) => region,
@@ -53,6 +59,9 @@ pub(crate) fn take_region<W: Wait>(
         Proceeds pool.now (hand_with place result) 1 0 (region_told result) seat.old seat.new }
     ensures region { IfSome result (λ r. IsRegion pool.now seat.new r × (r.id.class ≡ class)) }
     ensures later { IsLater pool.now seat.old seat.new }
+    ensures reads { let shape = pool.now.table.layout.shape in
+        NotesAs (ask_arena shape (lane_of seat.old) class) (option_map (λ r. r.id) result)
+        (view_of seat.old) (view_of seat.new) }
 {
     for _ in rt.forever() {
         match pool.take(seat, class) {
@@ -78,6 +87,7 @@ pub(crate) fn put_back<W: Wait>(
     ensures proceeds { let place = option_map (λ h. h.now.place) beside.entry in
         Proceeds pool.now (hand_with place None) 2 0 no_change seat.old seat.new }
     ensures later { IsLater pool.now seat.old seat.new }
+    ensures reads { NotesAs (puts_away region.id) tt (view_of seat.old) (view_of seat.new) }
 {
     if region.id.class >= CACHED_CLASSES {
         give_region(rt, pool, seat, beside, region);
@@ -105,6 +115,8 @@ fn put_region(
         Proceeds pool.now (hand_with place result) 1 0 no_change seat.old seat.new }
     ensures region { IfSome result (IsRegion pool.now seat.new) }
     ensures later { IsLater pool.now seat.old seat.new }
+    ensures reads { NotesOn (offer region.id) (offers_on result)
+        (view_of seat.old) (view_of seat.new) }
 {
     match pool.put_cached(seat, region) {
         Went::Did(_number, Put::Kept) => None,
@@ -128,6 +140,7 @@ fn give_region<W: Wait>(
     ensures proceeds { let place = option_map (λ h. h.now.place) beside.entry in
         Proceeds pool.now (hand_with place None) 1 0 no_change seat.old seat.new }
     ensures later { IsLater pool.now seat.old seat.new }
+    ensures reads { NotesAs (give_back own.id) tt (view_of seat.old) (view_of seat.new) }
 {
     let mut region = own;
     for _ in rt.forever() {

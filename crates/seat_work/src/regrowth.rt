@@ -1,17 +1,20 @@
 //! How a root gets more capacity: in its own region, or in another one from the lane's cache or
 //! arena. (Netty: `PooledByteBuf.capacity`)
 
-ghost use Rattle.std.specs.Prelude.{◌≡◌, ◌<◌, ◌≤◌, None, Some, IfOk, IfSome};
+ghost use Rattle.std.specs.Prelude.{◌≡◌, ◌<◌, ◌≤◌, None, Some, IfOk, IfSome, Ok, option_map};
 ghost use Rattle.size_classes.specs.Sizes.{class_count, class_of, size_at};
 ghost use Rattle.pool_law.specs.Limits.{geometry_of};
+ghost use Rattle.pool_law.specs.Patterns.{found_room, grow_with, grown as grows, obtain as obtains, regrow};
 ghost use Rattle.pool_table.specs.Counts.{HasCount};
 ghost use Rattle.shared_pool.specs.Regrowing.{back_of, grown_capacity, room_capacity, IsGrownFor, IsRoomFor};
+ghost use Rattle.shared_pool.specs.SeatLanes.{lane_of};
 ghost use Rattle.shared_pool.specs.SeatViews.{view_of};
 ghost use Rattle.seat_work.specs.Answers.{hand_with, region_told};
 ghost use Rattle.seat_work.specs.Capacities.{IsLearned};
 ghost use Rattle.seat_work.specs.Changes.{no_change};
 ghost use Rattle.seat_work.specs.Hands.{empty_hand, IsRegion};
-ghost use Rattle.seat_work.specs.Regrowths.{grown, IsTold};
+ghost use Rattle.seat_work.specs.Readings.{NotesAs};
+ghost use Rattle.seat_work.specs.Regrowths.{as_grown, grow_over, grown, reply_of, IsTold};
 ghost use Rattle.seat_work.specs.Works.{IsLater, IsLaterBut, Proceeds, Works};
 
 use crate::regions::{pop_region, put_back, take_region};
@@ -49,6 +52,9 @@ pub fn grow<W: Wait>(
         IsLearned root capacity (view_of seat.old) (view_of seat.new)) }
     ensures told { IfOk result (λ capacity. IsTold pool.now root capacity seat.old seat.new) }
     ensures later { IsLaterBut root pool.now seat.old seat.new }
+    ensures reads { let shape = pool.now.table.layout.shape in
+        NotesAs (regrow shape (lane_of seat.old) root size) (reply_of result)
+        (view_of seat.old) (view_of seat.new) }
 {
     match ask(rt, pool, seat, root, size) {
         Room::Enough(capacity) => Ok(capacity),
@@ -69,6 +75,8 @@ fn ask<W: Wait>(rt: &W, pool: &SharedPool, seat: &mut PoolSeat, root: RootId, si
         (view_of seat.old) (view_of seat.new) }
     ensures told { IsTold pool.now root (room_capacity size result) seat.old seat.new }
     ensures later { IsLaterBut root pool.now seat.old seat.new }
+    ensures reads { NotesAs (found_room root size) (room_capacity size result)
+        (view_of seat.old) (view_of seat.new) }
 {
     for _ in rt.forever() {
         match pool.room(seat, root, size) {
@@ -100,6 +108,9 @@ fn grow_out<W: Wait>(
         IsLearned root capacity (view_of seat.old) (view_of seat.new)) }
     ensures told { IfOk result (λ capacity. IsTold pool.now root capacity seat.old seat.new) }
     ensures later { IsLaterBut root pool.now seat.old seat.new }
+    ensures reads { let shape = pool.now.table.layout.shape in
+        NotesAs (grow_over shape (lane_of seat.old) class root size) (reply_of result)
+        (view_of seat.old) (view_of seat.new) }
 {
     match obtain(rt, pool, seat, class) {
         Some(region) => Ok(grow_by(rt, pool, seat, root, size, region)),
@@ -116,6 +127,9 @@ fn obtain<W: Wait>(rt: &W, pool: &SharedPool, seat: &mut PoolSeat, class: u32) -
         seat.old seat.new }
     ensures region { IfSome result (λ r. IsRegion pool.now seat.new r × (r.id.class ≡ class)) }
     ensures later { IsLater pool.now seat.old seat.new }
+    ensures reads { let shape = pool.now.table.layout.shape in
+        NotesAs (obtains shape (lane_of seat.old) class) (option_map (λ r. r.id) result)
+        (view_of seat.old) (view_of seat.new) }
 {
     if class >= CACHED_CLASSES {
         return take_region(rt, pool, seat, None, class);
@@ -147,6 +161,8 @@ fn grow_by<W: Wait>(
     ensures capacity { IsLearned root result (view_of seat.old) (view_of seat.new) }
     ensures told { IsTold pool.now root result seat.old seat.new }
     ensures later { IsLaterBut root pool.now seat.old seat.new }
+    ensures reads { NotesAs (grow_with root size (Some region.id)) (Ok result)
+        (view_of seat.old) (view_of seat.new) }
 {
     let grown = move_into(rt, pool, seat, root, size, region);
     let (capacity, left) = parts_of(grown, size);
@@ -177,6 +193,8 @@ fn move_into<W: Wait>(
     ensures told { IsTold pool.now root (grown_capacity size result) seat.old seat.new }
     ensures region { IsRegion pool.now seat.new (back_of result) }
     ensures later { IsLaterBut root pool.now seat.old seat.new }
+    ensures reads { NotesAs (grows root size own.id) (as_grown size result)
+        (view_of seat.old) (view_of seat.new) }
 {
     let mut region = own;
     for _ in rt.forever() {

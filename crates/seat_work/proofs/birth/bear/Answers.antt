@@ -7,6 +7,9 @@ use Rattle.seat_work.proofs.Calls.{born_root}
 use Rattle.seat_work.proofs.Holds.{holds_handle, holds_region}
 use Rattle.seat_work.proofs.Later.{born_with, later_born, later_has}
 use Rattle.seat_work.proofs.Proceeding.{proceeds_none}
+use Rattle.shared_pool.specs.SeatLanes.{lane_of}
+use Rattle.shared_pool.specs.SeatViews.{view_of}
+use Rattle.seat_work.proofs.PartReads.{birth_noted}
 use Rattle.seat_work.proofs.birth.bear.Goals as goal
 
 pub try_birth-requires-clause-handle : goal.try_birth-requires-clause-handle
@@ -51,3 +54,10 @@ pub returns-in-Err-clause-later : goal.returns-in-Err-clause-later
 returns-in-Err-clause-later c =
     let kept = c.in-Err.ensures {u = tt} in
     later_has c.args.pool.now c.args.seat.now c.try_birth.new.seat kept.same c.requires.works.seat kept.seat kept.back.2
+
+pub returns-in-Ok-clause-reads : goal.returns-in-Ok-clause-reads
+returns-in-Ok-clause-reads c =
+    let born = c.in-Ok.ensures {u = tt} in
+    birth_noted c.args.pool.now c.args.seat.now c.try_birth.new.seat (lane_of c.args.seat.now) c.args.handle.place
+    c.args.capacity c.args.region.id c.in-Ok.root c.in-Ok._number (view_of c.args.seat.now).moves c.args.watch.now
+    born.root.0 born.root.1 born.did

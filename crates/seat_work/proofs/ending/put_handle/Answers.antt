@@ -8,6 +8,13 @@ use Rattle.seat_work.proofs.Calls.{handle_home}
 use Rattle.seat_work.proofs.Holds.{holds_handle}
 use Rattle.seat_work.proofs.Later.{later_same, later_noted}
 use Rattle.seat_work.proofs.Proceeding.{works_same, proceeds_same}
+use Rattle.pool_law.specs.declared.note.Object.TheVariants.{Bin}
+use Rattle.pool_law.specs.Dids as says
+use Rattle.pool_law.specs.Readers.{note}
+use Rattle.pool_table.specs.declared.views.SeatView.{SeatView}
+use Rattle.shared_pool.specs.SeatViews.{view_of}
+use Rattle.seat_work.specs.Readings.{NotesAs}
+use Rattle.seat_work.proofs.Handles.{home_noted}
 use Rattle.seat_work.proofs.ending.put_handle.Goals as goal
 
 pub put_handle-requires-clause-handle : goal.put_handle-requires-clause-handle
@@ -49,3 +56,14 @@ returns-in-Held-clause-later g c =
     let held = c.in-Held.ensures in let next = c.wait_to_put_handle in
     later_same c.args.pool.now c.args.seat.now c.put_handle.new.seat next.new.seat held.same
     (ap (λ m. m.0) held.held.1.marked) next.ensures.later
+
+pub returns-in-Did-clause-reads : goal.returns-in-Did-clause-reads
+returns-in-Did-clause-reads g c =
+    home_noted c.args.pool.now c.args.seat.now c.put_handle.new.seat c.args.own c.in-Did._number c.in-Did.ensures.did
+
+pub returns-in-Held-clause-reads : goal.returns-in-Held-clause-reads
+returns-in-Held-clause-reads g c =
+    let held = c.in-Held.ensures.held in let next = c.wait_to_put_handle in let new = view_of next.new.seat in
+    subst (λ (h : HandleValue). NotesAs (note (Bin h.lane) (says.home h.place)) tt (view_of c.args.seat.now) new) held.0
+    (subst (λ (v : SeatView). NotesAs (note (Bin c.in-Held.back.lane) (says.home c.in-Held.back.place)) tt v new)
+    (ap (λ m. m.0) held.1.marked) next.ensures.reads)

@@ -9,6 +9,13 @@ use Rattle.seat_work.proofs.Calls.{handle_home}
 use Rattle.seat_work.proofs.Holds.{holds_handle}
 use Rattle.seat_work.proofs.Later.{later_same, later_noted}
 use Rattle.seat_work.proofs.Proceeding.{works_same, proceeds_same}
+use Rattle.pool_law.specs.declared.note.Object.TheVariants.{Bin}
+use Rattle.pool_law.specs.Dids as says
+use Rattle.pool_law.specs.Readers.{note}
+use Rattle.pool_table.specs.declared.views.SeatView.{SeatView}
+use Rattle.shared_pool.specs.SeatViews.{view_of}
+use Rattle.seat_work.specs.Readings.{NotesAs}
+use Rattle.seat_work.proofs.Handles.{home_noted}
 use Rattle.seat_work.proofs.ending.wait_to_put_handle.Goals as goal
 
 pub put_handle-requires-clause-handle : goal.put_handle-requires-clause-handle
@@ -33,3 +40,11 @@ returns-in-Did-clause-later g c =
     let inv = c.loop.invariant in
     later_same pool c.args.seat.now mid new inv.3 inv.1
     (later_noted pool mid new did.ensures.same inv.0 did.ensures.seat did.ensures.did refl)
+
+pub returns-in-Did-clause-reads : goal.returns-in-Did-clause-reads
+returns-in-Did-clause-reads g c =
+    let new = c.put_handle.new.seat in let inv = c.loop.invariant in let h = c.loop.handle in
+    subst (λ (h : HandleValue).
+    NotesAs (note (Bin h.lane) (says.home h.place)) tt (view_of c.args.seat.now) (view_of new)) inv.2
+    (subst (λ (v : SeatView). NotesAs (note (Bin h.lane) (says.home h.place)) tt v (view_of new)) inv.1
+    (home_noted c.args.pool.now c.loop.seat new h c.in-Did._number c.in-Did.ensures.did))

@@ -9,6 +9,11 @@ use Rattle.seat_work.proofs.Calls.{gave_region}
 use Rattle.seat_work.proofs.Holds.{holds_region, region_stays}
 use Rattle.seat_work.proofs.Later.{later_same, later_noted}
 use Rattle.seat_work.proofs.Proceeding.{works_same, proceeds_same}
+use Rattle.pool_law.specs.Patterns.{give_back}
+use Rattle.pool_table.specs.declared.views.SeatView.{SeatView}
+use Rattle.shared_pool.specs.SeatViews.{view_of}
+use Rattle.seat_work.specs.Readings.{NotesAs}
+use Rattle.seat_work.proofs.RegionNotes.{give_noted}
 use Rattle.seat_work.proofs.regions.give_region.Goals as goal
 
 pub give-requires-clause-region : goal.give-requires-clause-region
@@ -36,3 +41,10 @@ returns-in-Did-clause-later g c =
     let inv = c.loop.invariant in
     later_same pool c.args.seat.now mid new inv.3 inv.1
     (later_noted pool mid new did.ensures.same inv.0 did.ensures.seat did.ensures.did refl)
+
+pub returns-in-Did-clause-reads : goal.returns-in-Did-clause-reads
+returns-in-Did-clause-reads g c =
+    let did = c.in-Did in let new = c.give.new.seat in let inv = c.loop.invariant in
+    subst (λ (r : Region). NotesAs (give_back r.id) tt (view_of c.args.seat.now) (view_of new)) inv.2
+    (subst (λ (v : SeatView). NotesAs (give_back c.loop.region.id) tt v (view_of new)) inv.1
+    (give_noted c.args.pool.now c.loop.seat new c.loop.region.id did._number did.ensures.did))

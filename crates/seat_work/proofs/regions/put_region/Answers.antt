@@ -12,6 +12,10 @@ use Rattle.seat_work.specs.Works.{Proceeds}
 use Rattle.seat_work.proofs.Calls.{kept_region, back_region, marked}
 use Rattle.seat_work.proofs.Holds.{holds_region}
 use Rattle.seat_work.proofs.Later.{later_noted, later_busy, quiet_put}
+use Rattle.pool_law.specs.Patterns.{give_back, offer}
+use Rattle.shared_pool.specs.SeatViews.{view_of}
+use Rattle.seat_work.specs.Readings.{NotesOn}
+use Rattle.seat_work.proofs.RegionNotes.{back_noted, kept_noted, not_asked}
 use Rattle.seat_work.proofs.regions.put_region.Goals as goal
 
 pub put_cached-requires-clause-region : goal.put_cached-requires-clause-region
@@ -69,3 +73,29 @@ returns-in-Held-clause-later c =
     let held = c.in-Held in let id = c.args.region.id in
     later_busy c.args.pool.now c.args.seat.now c.put_cached.new.seat held.ensures.same c.requires.works.seat
     held.ensures.seat (Cache id.owner id.class) held._held held.ensures.held.1
+
+pub returns-in-Did-default-Kept-clause-reads : goal.returns-in-Did-default-Kept-clause-reads
+returns-in-Did-default-Kept-clause-reads c =
+    let pool = c.args.pool.now in let old = c.args.seat.now in let new = c.put_cached.new.seat in
+    let did = c.in-Did-default-Kept in let id = c.args.region.id in
+    kept_noted pool old new id did._number
+    (subst (λ (x : Put). IsNoted pool old new (Cache id.owner id.class) did._number (plain (was_put id x)))
+    did.field-1-is did.ensures.did)
+
+pub returns-in-Did-default-Back-clause-reads : goal.returns-in-Did-default-Back-clause-reads
+returns-in-Did-default-Back-clause-reads c =
+    let pool = c.args.pool.now in let old = c.args.seat.now in let new = c.put_cached.new.seat in
+    let did = c.in-Did-default-Back in let region = c.args.region in let id = region.id in
+    let same : did.region ≡ region = subst (λ (x : Put). IfBack x (λ r. r ≡ region)) did.field-1-is
+    did.ensures.back in
+    subst (λ (r : Region). NotesOn (offer id) (give_back r.id) (view_of old) (view_of new)) (sym same)
+    (back_noted pool old new id did._number did._no
+    (subst (λ (x : Put). IsNoted pool old new (Cache id.owner id.class) did._number (plain (was_put id x)))
+    did.field-1-is did.ensures.did))
+
+pub returns-in-Held-clause-reads : goal.returns-in-Held-clause-reads
+returns-in-Held-clause-reads c =
+    let old = c.args.seat.now in let new = c.put_cached.new.seat in
+    let held = c.in-Held in let id = c.args.region.id in
+    subst (λ (r : Region). NotesOn (offer id) (give_back r.id) (view_of old) (view_of new)) (sym held.ensures.held.0)
+    (not_asked c.args.pool.now old new id held._held held.ensures.held.1)

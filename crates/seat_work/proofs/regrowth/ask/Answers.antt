@@ -11,6 +11,9 @@ use Rattle.seat_work.proofs.Knowing.{learned}
 use Rattle.seat_work.proofs.Later.{follows_same, later_asked}
 use Rattle.seat_work.proofs.Proceeding.{proceeds_same, works_same}
 use Rattle.seat_work.proofs.Regrowing.{asked_root, asks_room, told_noted, told_room, told_same}
+use Rattle.pool_law.specs.Patterns.{found_room}
+use Rattle.seat_work.specs.Readings.{NotesAs}
+use Rattle.seat_work.proofs.GrowthNotes.{room_noted}
 use Rattle.seat_work.proofs.regrowth.ask.Goals as goal
 
 pub room-requires-clause-counts : goal.room-requires-clause-counts
@@ -38,4 +41,7 @@ returns-in-Did g c =
           follows_same pool (is_quiet_but a.root) old mid new inv.2 inv.1
           (later_asked pool mid new did.ensures.same inv.0 did.ensures.seat a.root did.ensures.did
           (asks_room a.root a.size did.room));
+      reads =
+          subst (λ (v : SeatView). NotesAs (found_room a.root a.size) (room_capacity a.size did.room) v (view_of new))
+          inv.1 (room_noted pool mid new a.root a.size did._number did.room did.ensures.did);
     }

@@ -7,13 +7,17 @@ use Rattle.seat_work.specs.Capacities.{IsLearned}
 use Rattle.seat_work.specs.Changes.{no_change}
 use Rattle.seat_work.specs.Growth.{is_quiet_but}
 use Rattle.seat_work.specs.Hands.{empty_hand, IsRegion}
-use Rattle.seat_work.specs.Regrowths.{IsTold}
+use Rattle.seat_work.specs.Regrowths.{IsTold, as_grown}
 use Rattle.seat_work.specs.Works.{Works}
 use Rattle.seat_work.proofs.Counting.{still_counts}
 use Rattle.seat_work.proofs.Knowing.{learned_then}
 use Rattle.seat_work.proofs.Later.{follows_on, later_but}
 use Rattle.seat_work.proofs.Proceeding.{proceeds_on, works_after}
 use Rattle.seat_work.proofs.Regrowing.{grown_enough, told_then}
+use Rattle.std.specs.Prelude.{Ok}
+use Rattle.pool_law.specs.Patterns.{grow_with, put_away}
+use Rattle.seat_work.specs.Readings.{NotesAs}
+use Rattle.seat_work.proofs.GrowthNotes.{left_noted}
 use Rattle.seat_work.proofs.regrowth.grow_by.Goals as goal
 
 pub put_back-requires-clause-works : goal.put_back-requires-clause-works
@@ -49,4 +53,10 @@ returns g c =
       told = subst (λ (n : ℕ). IsTold pool a.root n old new) e
           (told_then pool a.root told old mid new call.ensures.told rest);
       later = follows_on pool (is_quiet_but a.root) old mid new call.ensures.later rest;
+      reads =
+          subst (λ (n : ℕ). NotesAs (grow_with a.root a.size (Some a.region.id)) (Ok n) (view_of old) (view_of new)) e
+          (left_noted a.root a.size a.region.id (as_grown a.size call.result) (view_of old) (view_of mid) (view_of new)
+          (grown_enough a.size a.region call.result call.ensures.answer) call.ensures.reads
+          (subst (λ (r : Region). NotesAs (put_away r.id) tt (view_of mid) (view_of new))
+          (ap (λ p. p.1) c.parts_of-capacity.ensures) last.ensures.reads));
     }

@@ -12,6 +12,11 @@ use Rattle.seat_work.proofs.Knowing.{learned_on}
 use Rattle.seat_work.proofs.Later.{follows_on, later_but}
 use Rattle.seat_work.proofs.Proceeding.{proceeds_more, proceeds_on}
 use Rattle.seat_work.proofs.Regrowing.{told_on}
+use Rattle.std.specs.Prelude.{Ok}
+use Rattle.pool_law.specs.Patterns.{grow_with, obtain}
+use Rattle.pool_law.specs.Readers.{◌>>=◌, give}
+use Rattle.shared_pool.specs.SeatLanes.{lane_of}
+use Rattle.seat_work.proofs.Noting.{notes_given, notes_on}
 use Rattle.seat_work.proofs.regrowth.grow_out.Goals as goal
 
 pub obtain-requires-clause-class : goal.obtain-requires-clause-class
@@ -33,6 +38,8 @@ returns-in-Some g c =
     let pool = c.args.pool.now in let old = c.args.seat.now in let mid = c.obtain.new.seat in let next = c.grow_by in
     let new = next.new.seat in let root = c.args.root in let first = c.in-Some.ensures in
     let before = later_but pool root old mid first.later in
+    let shape = pool.table.layout.shape in let lane = lane_of old in let id = c.in-Some.region.id in
+    let grows = grow_with root c.args.size in
     record {
       proceeds =
           proceeds_on pool no_change (hand_with None (Some c.in-Some.region)) empty_hand 2 0 3 0 5 0 old mid new
@@ -44,6 +51,11 @@ returns-in-Some g c =
           next.ensures.capacity;
       told = told_on pool root next.result old mid new before next.ensures.told;
       later = follows_on pool (is_quiet_but root) old mid new before next.ensures.later;
+      reads =
+          notes_on (obtain shape lane c.args.class >>= grows) (grows (Some id)) (view_of old) (view_of mid)
+          (give (Ok next.result)) (view_of new)
+          (notes_given (obtain shape lane c.args.class) (Some id) grows (view_of old) (view_of mid) first.reads)
+          next.ensures.reads;
     }
 
 pub returns-in-None : goal.returns-in-None
@@ -60,4 +72,7 @@ returns-in-None g c =
       capacity = tt;
       told = tt;
       later = later_but pool c.args.root old new first.later;
+      reads =
+          notes_given (obtain pool.table.layout.shape (lane_of old) c.args.class) None
+          (grow_with c.args.root c.args.size) (view_of old) (view_of new) first.reads;
     }

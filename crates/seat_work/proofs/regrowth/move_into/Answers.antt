@@ -16,6 +16,10 @@ use Rattle.seat_work.proofs.Knowing.{learned}
 use Rattle.seat_work.proofs.Later.{follows_same, later_asked}
 use Rattle.seat_work.proofs.Proceeding.{proceeds_same, works_same}
 use Rattle.seat_work.proofs.Regrowing.{asks_grown, grown_root, told_grown, told_noted, told_same}
+use Rattle.pool_law.specs.Patterns.{grown as grows}
+use Rattle.seat_work.specs.Readings.{NotesAs}
+use Rattle.seat_work.specs.Regrowths.{as_grown}
+use Rattle.seat_work.proofs.GrowthNotes.{grown_noted}
 use Rattle.seat_work.proofs.regrowth.move_into.Goals as goal
 
 pub grow-requires-clause-counts : goal.grow-requires-clause-counts
@@ -64,4 +68,7 @@ returns-in-Did g c =
       later =
           follows_same pool (is_quiet_but a.root) old mid new inv.3 inv.1
           (later_asked pool mid new did.ensures.same inv.0 did.ensures.seat a.root noted asks);
+      reads =
+          subst (λ (v : SeatView). NotesAs (grows a.root a.size a.own.id) (as_grown a.size out) v (view_of new)) inv.1
+          (grown_noted pool mid new a.root a.size did._number a.own out answer noted);
     }
