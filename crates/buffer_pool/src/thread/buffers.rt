@@ -56,7 +56,8 @@ impl<B: PoolName> PoolThread<B> {
         ensures watcher { MatchResult result
             (λ _. self.new.watcher ≡ with_next self.old.watcher)
             (λ _. self.new.watcher ≡ self.old.watcher) }
-        ensures settled { OnOk result (IsSettled self.new) }
+        ensures settled { MatchResult result (λ _. IsSettled self.new)
+            (λ no. alloc_turns no ≡ 6 → IsSettled self.new) }
         ensures stays { IsSettled self.old → IsSettled self.new }
         ensures too_large { (result ≡ Err AllocNo.TooLarge)
             ↔ (chunk_bytes (geometry_of pool.now.table.layout.shape) < size) }

@@ -6,6 +6,7 @@ ghost use Rattle.pool_law.specs.Views.{reaching, LiesIn};
 ghost use Rattle.seat_work.specs.Changes.{no_change};
 ghost use Rattle.seat_work.specs.Regrowths.{IsTold};
 ghost use Rattle.pool_member.specs.Alone.{GrowsAlone};
+ghost use Rattle.pool_member.specs.declared.answers.CapacityNo.TheVariants.{Full};
 ghost use Rattle.pool_member.specs.Growths.{IsTriedBy, LeavesAsked};
 ghost use Rattle.pool_member.specs.Refusals.{is_here};
 ghost use Rattle.pool_member.specs.Regrowths.{capacity_no, IsRefusedBy, LeavesThread};
@@ -52,7 +53,8 @@ impl<B: PoolName> PoolThread<B> {
         ensures alone { GrowsAlone buffer.old.at.root self.old self.new }
         ensures here { OnOk result (IsTrue (is_here self.new.account buffer.new)) }
         ensures moves { self.new.account.moves ≡ self.old.account.moves }
-        ensures settled { OnOk result (IsSettled self.new) }
+        ensures settled { MatchResult result (λ _. IsSettled self.new)
+            (λ no. no ≡ Full → IsSettled self.new) }
         ensures stays { IsSettled self.old → IsSettled self.new }
         ensures refused { IfErr result
             (LeavesThread buffer.old.at.root self.old self.new) }

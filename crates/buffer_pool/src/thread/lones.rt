@@ -1,6 +1,6 @@
 //! How buffers come that their thread alone has.
 
-ghost use Rattle.std.specs.Prelude.{◌≡◌, ◌<◌, ◌↔◌, replicate, Err, IfErr, IfOk, IsTrue, MatchResult, None, OnOk};
+ghost use Rattle.std.specs.Prelude.{◌≡◌, ◌<◌, ◌↔◌, replicate, Err, IfErr, IfOk, IsTrue, MatchResult, None};
 ghost use Rattle.size_classes.specs.Sizes.{chunk_bytes};
 ghost use Rattle.pool_law.specs.Limits.{geometry_of};
 ghost use Rattle.pool_law.specs.Views as views;
@@ -42,7 +42,8 @@ impl<B: PoolName> PoolThread<B> {
         ensures watcher { MatchResult result
             (λ _. self.new.watcher ≡ with_next self.old.watcher)
             (λ _. self.new.watcher ≡ self.old.watcher) }
-        ensures settled { OnOk result (IsSettled self.new) }
+        ensures settled { MatchResult result (λ _. IsSettled self.new)
+            (λ no. alloc_turns no ≡ 6 → IsSettled self.new) }
         ensures stays { IsSettled self.old → IsSettled self.new }
         ensures too_large { (result ≡ Err AllocNo.TooLarge)
             ↔ (chunk_bytes (geometry_of pool.now.table.layout.shape) < size) }
