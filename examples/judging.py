@@ -2,7 +2,6 @@
 
 The wanted place is known where the change is made: it is written beside it here, or counted from the lines (`numbered`), and no output of run_judge was taken.
 """
-import re
 
 HISTORY = "up to this one its notes have not each number once, or it does not accept them so"
 PARCELS = "up to this one its posts are not numbered so, or what is fetched is not what was posted"
@@ -10,6 +9,10 @@ ANSWERS = "from here on the replies and notes are not those of the commands and 
 CHUNKS = "the next is not what the arenas have at the end"
 LEAKS = "the next is not that of the next sampled root that is live"
 FORM = "no run of this trace has such a line here"
+NO_TAKING = "it names a region that no note tells the taking of"
+NO_BIRTH = "it names a root that no note tells the birth of"
+MARKS = "with this note the busy notes of the lane cannot be right"
+LEGAL = "0 legal"
 
 # What is changed in the text of `smallest` so that its region is given a second time.
 GIVEN_TWICE = {"note 0 arena 0 2 give 0+0 1\n": "note 0 arena 0 2 give 0+0 1\nnote 0 arena 0 3 give 0+0 1\n"}
@@ -18,11 +21,18 @@ GIVEN_TWICE = {"note 0 arena 0 2 give 0+0 1\n": "note 0 arena 0 2 give 0+0 1\nno
 CLOSING = "note 0 cache 0 0 1 close 0\nnote 0 cache 0 1 3 close 1\nnote 0 cache 0 1 4 shed 1\nnote 0 arena 0 2 give 0+0 1\n"
 CLOSING += "".join(f"note 0 cache 0 {of_class} 1 close 0\n" for of_class in range(2, 40))
 
+
+def placed_at(offset):
+    """What is changed in the text of `smallest` so that its region is at another offset."""
+    lines = ("alloc ok 32 0.0+0", "take 1 0+0 1", "birth 1 0.0+0", "give 0+0 1")
+    return {line: line.replace("+0", f"+{offset}") for line in lines}
+
+
 # Of an example the places that are changed in its text with history, and what run_judge says of that: its status, and its lines with
 # "; " between them. Where nothing else is said, it is legal.
 JUDGED = [
-    ("smallest", {}, "0 legal"),
-    ("hand_over", {}, "0 legal"),
+    ("smallest", {}, LEGAL),
+    ("hand_over", {}, LEGAL),
     # a place, a reply, a byte of a reply
     ("smallest", {"alloc ok 32 0.0+0": "alloc ok 32 0.0+32"}, f"1 not legal: 0.0: {ANSWERS}"),
     ("smallest", {"0.1 set ok": "0.1 set range"}, f"1 not legal: 0.1: {ANSWERS}"),
@@ -57,6 +67,49 @@ JUDGED = [
         f"1 not legal: root 0 number 1: {HISTORY}",
     ),
     ("smallest", GIVEN_TWICE, f"1 not legal: arena 0 number 3: {HISTORY}"),
+    # the byte is read as it was written, and noted as another; what was freed is kept; a quota too small
+    ("smallest", {"get 0 68656c6c6f": "get 0 6a656c6c6f"}, f"1 not legal: root 0 number 3: {HISTORY}"),
+    ("smallest", {"0.3 release freed": "0.3 release kept"}, f"1 not legal: 0.3: {ANSWERS}"),
+    ("smallest", {"cache 0 1 3 close 1": "cache 0 1 3 close 0"}, f"1 not legal: cache 0 1 number 3: {HISTORY}"),
+    # the second element, the second page, and a taking that is not the first
+    ("smallest", placed_at(32), f"1 not legal: arena 0 number 1: {HISTORY}"),
+    ("smallest", placed_at(8192), f"1 not legal: arena 0 number 1: {HISTORY}"),
+    (
+        "smallest",
+        {
+            "arena 0 1 take 1 0+0 1": "arena 0 2 take 1 0+0 2",
+            "0.0+0 1 1 24": "0.0+0 2 1 24",
+            "kept 1": "kept 2",
+            "shed 1": "shed 2",
+            "give 0+0 1": "give 0+0 2",
+        },
+        f"1 not legal: arena 0 number 1: {HISTORY}",
+    ),
+    # a root that grows in its region, one that doesn't since the arena is full, and one that grows out of its region
+    ("growth_in_its_region", {"0.1 capacity ok 30": "0.1 capacity ok 31", "extend 30": "extend 31"}, f"1 not legal: 0.1: {ANSWERS}"),
+    ("growth_refused", {"0.1 capacity full": "0.1 capacity ok 65536"}, f"1 not legal: 0.1: {ANSWERS}"),
+    ("growth", {"get ok ff00": "get ok 0000", "get 0 ff00": "get 0 0000"}, f"1 not legal: root 0 number 6: {HISTORY}"),
+    ("growth", {"0.3 capacity ok 100": "0.3 capacity ok 101"}, f"1 not legal: 0.3: {ANSWERS}"),
+    ("growth", {"grow 0.0+8192 2 1 100": "grow 0.0+8192 2 0 100"}, f"1 not legal: 0.3: {ANSWERS}"),
+    # the region that it leaves is held, or given at once and kept
+    (
+        "growth",
+        {
+            "note 0 cache 0 0 2 kept 1\n": "",
+            "cache 0 0 3 close 1\nnote 0 cache 0 0 4 shed 1\nnote 0 arena 0 3 give 0+0 1\n": "cache 0 0 2 close 0\n",
+            "arena 0 4 give 0+8192 2": "arena 0 3 give 0+8192 2",
+        },
+        f"1 not legal: 0.3: {ANSWERS}",
+    ),
+    (
+        "growth",
+        {
+            "arena 0 4 give 0+8192 2": "arena 0 5 give 0+8192 2",
+            "arena 0 3 give 0+0 1": "arena 0 4 give 0+0 1",
+            "note 0 cache 0 0 2 kept 1\n": "note 0 cache 0 0 2 kept 1\nnote 0 arena 0 3 give 0+0 1\n",
+        },
+        f"1 not legal: arena 0 number 4: {HISTORY}",
+    ),
     # a region that a full cache keeps
     ("cache_full", {"note 0 cache 0 39 130 back full 65": "note 0 cache 0 39 130 kept 65"}, f"1 not legal: cache 0 39 number 130: {HISTORY}"),
     # as many bytes, and another number of roots in the last of its 60 lines
@@ -69,18 +122,18 @@ JUDGED = [
     (
         "smallest",
         {"note 0 arena 0 1 take 1 0+0 1\n": ""},
-        "8 refused text line 7: it names a region that no note tells the taking of",
+        f"8 refused text line 7: {NO_TAKING}",
     ),
     (
         "smallest",
         {"note 0 root 0 1 birth 1 0.0+0 1 1 24\n": ""},
-        "8 refused text line 8: it names a root that no note tells the birth of",
+        f"8 refused text line 8: {NO_BIRTH}",
     ),
     # a mark before a note of the same lane: behind 8 notes, of which the last is `ended`
     (
         "smallest",
         {"note 0 root 0 4 end 1": "note 0 busy root 0 3\nnote 0 root 0 4 end 1"},
-        "1 not legal: lane 0 after 8 notes: with this note the busy notes of the lane cannot be right",
+        f"1 not legal: lane 0 after 8 notes: {MARKS}",
     ),
     # the closing of a cache of a lane that is not there: before it stand the 12 notes of the commands, and 7 of the closing
     (
@@ -97,7 +150,7 @@ JUDGED = [
         f"1 not legal: after 1 chunk lines: {CHUNKS}",
     ),
     # a leak, and one too few
-    ("leaks_each", {}, "0 legal"),
+    ("leaks_each", {}, LEGAL),
     ("leaks_each", {"leak 0.1 capacity 100 count 1": "leak 0.1 capacity 100 count 2"}, f"1 not legal: after 0 leak lines: {LEAKS}"),
     ("leaks_each", {"leak 0.2 capacity 10 ": "leak 0.2 capacity 16 "}, f"1 not legal: after 1 leak lines: {LEAKS}"),
     (
@@ -106,7 +159,7 @@ JUDGED = [
         f"1 not legal: after 1 leak lines: {LEAKS}",
     ),
     # a count that is looked up: the root has 2, and the look stands behind the 5 notes of the birth and a retain
-    ("counts", {}, "0 legal"),
+    ("counts", {}, LEGAL),
     (
         "counts",
         {"0.2 refcnt ok 2": "0.2 refcnt ok 3", "ref 0.1 look 2": "ref 0.1 look 3"},
@@ -127,79 +180,20 @@ JUDGED = [
     ),
 ]
 
-# Traces, the places that are changed in the text of `smallest` so that it is one of theirs, and what is said of that.
-MADE = [
-    # the release ends the count, though the lane has retained the root
-    (
-        '[[["alloc","a",24],["retain","a"],["release","a"]]]',
-        {
-            "0.1 set ok\n0.2 get ok 68656c6c6f\n0.3 release freed": "0.1 retain ok\n0.2 release freed",
-            "root 0 2 set 0 68656c6c6f\nnote 0 root 0 3 get 0 68656c6c6f\n": "ref 0.1 retain\n",
-            "root 0 4 end 1": "root 0 2 end 1",
-            # one for the birth, one for the retain, and one release
-            "live 0": "live 1",
-        },
-        "1 not legal: lane 0 after 6 notes: this note uses a root that the lane does not count, or ends one that it still counts",
-    ),
-    # the release leaves no count, and does not end it
-    (
-        '[[["alloc","a",24],["release","a"]]]',
-        {
-            "0.1 set ok\n0.2 get ok 68656c6c6f\n0.3 release freed": "0.1 release kept",
-            "root 0 2 set 0 68656c6c6f\nnote 0 root 0 3 get 0 68656c6c6f\nnote 0 ref 0.1 ended\nnote 0 root 0 4 end 1\n"
-            "note 0 ref 0.1 vacated\nnote 0 cache 0 1 2 kept 1\nnote 0 bin 0 2 home 0\n": "ref 0.1 kept\n",
-            "cache 0 1 3 close 1\nnote 0 cache 0 1 4 shed 1\nnote 0 arena 0 2 give 0+0 1\n": "cache 0 1 2 close 0\n",
-        },
-        "1 not legal: root 0.1: its counts over all lanes do not add up",
-    ),
+# Of the text of `smallest` a place that is changed, the line that is refused then, and why.
+UNREAD_LINES = [
+    ("0.2 get ok 6865", "0.2 get good 6865", 3, FORM),
+    ("0.2 get", "0.2 read", 3, FORM),
+    ("ok 32 0.0", "ok 032 0.0", 1, FORM),
+    ("note 0 bin 0 1", "note 1 bin 0 1", 5, FORM),
+    ("bin 0 1 handle", "arena 0 1 handle", 5, FORM),
+    ("1 take 1 0+0 1", "1 take 76 0+0 1", 7, NO_TAKING),
+    ("ref 0.1 born", "ref 0.2 born", 9, NO_BIRTH),
+    ("set 0 68656c6c6f", "set 0 68656C6C6F", 10, FORM),
+    ("get 0 68656c6c6f\n", "get 0 68656c6c6\n", 11, FORM),
+    ("root 0 4 end 1", "root 1 4 end 1", 13, NO_BIRTH),
+    ("kept 1", "kept 2", 15, NO_TAKING),
+    ("home 0\n", "home 0 \n", 16, FORM),
+    ("free 4186112\n", "free 4186112\r\n", 59, FORM),
+    ("leaks 0\n", "leaks 0", 60, FORM),
 ]
-
-# A trace, and what is changed in its text: lane 1 retains and releases before it sends, so lane 0, which receives what was sent, finds two
-# counts. Three could be there, but not behind that; no two of these notes say so, so it is no circle. Lane 0 stops behind its fetch, its eighth note.
-LOOKS = (
-    '[[["alloc","a",24],["retain","a"],["send","a",1],["recv","y",1],["refcnt","a"],["release","a"],["send","none",1]],'
-    '[["recv","x",0],["retain","x"],["release","x"],["send","none",0],["recv","w",0],["release","x"]]]',
-    {"0.4 refcnt ok 2": "0.4 refcnt ok 3", "ref 0.1 look 2": "ref 0.1 look 3"},
-    "7 undecided: no circle of notes, but behind these no lane can go on, of which the last is; lane 0 after 7 notes",
-)
-
-
-# a note at an object: which object of which kind, its number, and what was done
-AT_OBJECT = re.compile(r"note \d+ ((arena|cache|bin|root|mail)(?: \d+)+?) (\d+) ([a-z]+)")
-
-
-def numbered(text):
-    """The text with one note at an object changed: with a number that no note has, twice, or left out before a later one. Each with its place:
-    the number that no note has then, or that two have; of the k-th post or fetch of a mail, twice, the second is the one too many."""
-    lines = text.splitlines(keepends=True)
-    found = [AT_OBJECT.match(line) for line in lines]
-    last = {note[1]: int(note[3]) for note in sorted(filter(None, found), key=lambda note: int(note[3]))}
-    for at, (line, note) in enumerate(zip(lines, found)):
-        if note is None:
-            continue
-        (of, kind, _, did), number = note.groups(), int(note[3])
-        is_mail, tells = kind == "mail", did in ("take", "birth")
-        why = PARCELS if is_mail else HISTORY
-        other = line[: note.start(3)] + str(number + 1000) + line[note.end(3) :]
-        changes = [("with another number", [other], number)]
-        if did != "birth":
-            changes.append(("twice", [line, line], number + is_mail))
-        if number < last[of] and not (is_mail or tells):
-            changes.append(("left out", [], number))
-        for what, instead, place in changes:
-            changed = "".join([*lines[:at], *instead, *lines[at + 1 :]])
-            yield f"{line.strip()} {what}", changed, f"1 not legal: {of} number {place}: {why}"
-
-
-# What is said of the notes of a lane that stand in the log of another: the region was taken by lane 1 then, and its third note at the cache
-# of lane 0 brings it there.
-EXCHANGED = f"1 not legal: cache 0 0 number 3: {HISTORY}"
-
-
-def exchanged(text):
-    """The text with the notes of its lanes 0 and 1 exchanged, and in the order of the lanes."""
-    lines = text.splitlines(keepends=True)
-    notes = {lane: [line for line in lines if line.startswith(f"note {lane} ")] for lane in "01"}
-    swapped = [re.sub(r"^note \d", f"note {lane}", line) for lane, other in ("01", "10") for line in notes[other]]
-    at = lines.index(notes["0"][0])
-    return "".join(lines[:at] + swapped + lines[at + len(swapped) :])

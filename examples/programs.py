@@ -1,11 +1,12 @@
 """The rows of trace_lint, nest_run, share_run, frame_cut, run_judge, run_view and pool_bench, which run where these programs are built, as the gate leaves them."""
+import json
 import os
 
 from drawing import try_view
 from framing import try_frames
-from judging import EXCHANGED, JUDGED, LOOKS, MADE, exchanged, numbered
-from trying import ACCEPTED, HERE, LINTED, LIVE, READ_FAULT, REFUSED, TERMINALS, TEXT_LIMIT, UNREAD, WHOLE, WRITE_FAULT
-from trying import broken_off, case_of, case_with, cut_off, expect, json_of, rows, run, text_and_line, try_ends
+from judged import try_judge
+from trying import ACCEPTED, HERE, LINTED, LIVE, READ_FAULT, REFUSED, TERMINALS, TEXT_LIMIT, WHOLE, WRITE_FAULT
+from trying import broken_off, cut_off, expect, rows, run, text_and_line, try_ends
 
 CRATES = f"{HERE}/../crates"
 CALL_LIMIT = 4096
@@ -23,6 +24,18 @@ def nest_of(calls):
     return f'{{"capacity":1,"calls":[{",".join(["[" + chr(34) + "slice" + chr(34) + ",0,0,0]"] * calls)}]}}'.encode()
 
 
+def chain_of(slices, order):
+    """A slice of a slice, so often, and the views released in this order; and what is answered, where each ends a view more, or with the last
+    one all of them."""
+    calls = [["slice", k, 0, 16] for k in range(slices)] + [["release", k] for k in order]
+    told = [f"{k} ok {k + 1}" for k in range(slices)]
+    if order[0] == 0:
+        told += [f"{slices + k} kept" for k in range(slices)] + [f"{2 * slices} freed {slices} root"]
+    else:
+        told += [f"{slices + k} freed 1" for k in range(slices)] + [f"{2 * slices} freed 0 root"]
+    return json.dumps({"capacity": 16, "calls": calls}).encode(), "".join(f"{line}\n" for line in [*told, "end live 0"])
+
+
 def try_inputs(name, program, table):
     """A table's inputs, each with its status, and with the lines that are written, or with the one that refuses it."""
     for text, want in map(text_and_line, rows(table)):
@@ -38,6 +51,10 @@ def try_nests(nest):
     end = "4095 ok 4096\nend live 4097\n"
     expect("nest_run < 4,096 slices", ran=((status, text[-len(end) :], said), (LIVE, end, "")))
     expect("nest_run < 4,097 slices", ran=(run(nest, [], nest_of(CALL_LIMIT + 1)), (REFUSED, "", "refused input\n")))
+    slices = CALL_LIMIT // 2 - 1
+    for order in (range(slices + 1), range(slices, -1, -1)):
+        calls, text = chain_of(slices, order)
+        expect(f"nest_run < {slices} slices that are released from {order[0]} on", ran=(run(nest, [], calls), (WHOLE, text, "")))
     call = b'{"capacity":4,"calls":[["slice",0,0,1]]}'
     text = "0 ok 1\nend live 2\n"
     expect("nest_run < a front", ran=(broken_off(nest, [], call[: 7 * TERMINALS]), (READ_FAULT, "", "read fault\n")))
@@ -62,7 +79,7 @@ def seen_of(composites, reads):
 
 # How many composites there are, parts each of them, bytes each part, readers, and reads each of them: at their limits, where many
 # readers want one or two composites at once, and with one more of each.
-SHARED = [(16, 24, 17, 16, 256), (16, 24, 2048, 16, 1), (1, 24, 2048, 16, 4), (2, 24, 1, 16, 256), (1, 1, 2, 1, 4096)]
+SHARED = [(16, 24, 17, 16, 256), (16, 24, 2048, 16, 1), (1, 24, 2048, 16, 4), (2, 24, 1, 16, 256), (1, 24, 1, 4, 1024), (1, 1, 2, 1, 4096)]
 TOO_MUCH = [(17, 1, 1, 1, 1), (1, 25, 1, 1, 1), (1, 1, 2049, 1, 1), (1, 1, 1, 17, 1), (1, 1, 1, 1, 4097), (1, 1, 1, 16, 257)]
 
 
@@ -92,27 +109,6 @@ def try_shares(share):
     for room in (0, 7, 10, 40):
         expect(f"share_run > {room} bytes", ran=(cut_off(share, [], read, room), (WRITE_FAULT, text[:room], "write fault\n")))
     try_ends("share_run", share, read, share_of(*shared(SHARED[0])), 5_000_000)
-
-
-def try_judge(judge, poolrun):
-    cases = [(f"{name} {changes}", case_of(poolrun, name, changes), want) for name, changes, want in JUDGED]
-    for trace, changes, want in MADE:
-        made = case_of(poolrun, "smallest", changes)
-        cases.append((f"{trace} {changes}", {**made, "trace": trace}, want))
-    trace, changes, want = LOOKS
-    cases.append((trace, case_with(poolrun, ["--history"], trace, changes), want))
-    for name in ("smallest", "hand_over"):
-        case = case_of(poolrun, name, {})
-        cases += [(f"{name}, {what}", {**case, "text": text}, want) for what, text, want in numbered(case["text"])]
-    case = case_of(poolrun, "hand_over", {})
-    cases.append(("hand_over with its lanes exchanged", {**case, "text": exchanged(case["text"])}, EXCHANGED))
-    for name, case, want in cases:
-        status, text, said = run(judge, [], json_of(case))
-        lines = "; ".join((text + said).splitlines())
-        expect(f"run_judge < {name}", said=(f"{status} {lines}", want), error=(said != "", status == UNREAD))
-    for text in (b"", b"[]", b'{"words":[],"trace":"[[]]"}', b'{"words":["--generate","1"],"trace":"[[]]","text":""}'):
-        expect(f"run_judge < {text}", ran=(run(judge, [], text), (REFUSED, "", "refused input\n")))
-    try_ends("run_judge", judge, json_of(case_of(poolrun, "smallest", {})), b" " * TEXT_LIMIT, TEXT_LIMIT)
 
 
 # Words of pool_bench, and the sum of what was read, if it is determined. No block is refused.

@@ -2,6 +2,7 @@
 import json
 import os
 import resource
+import socket
 import subprocess
 import tempfile
 import tty
@@ -45,6 +46,16 @@ def cut_off(program, words, text, room):
         ran = run(program, words, text, stdout=file, preexec_fn=bound, restore_signals=False)
         file.seek(0)
         return ran[0], file.read().decode(), ran[2]
+
+
+def bytewise(program, words, text, most):
+    """The same where a read gives no more than so many bytes: a socket gives what was sent to it piece by piece."""
+    ours, theirs = socket.socketpair(socket.AF_UNIX, socket.SOCK_SEQPACKET)
+    with theirs:
+        with ours:
+            for at in range(0, len(text), most):
+                ours.send(text[at : at + most])
+        return run(program, words, theirs)
 
 
 def broken_off(program, words, front):
@@ -93,11 +104,15 @@ def case_of(poolrun, name, changes):
 
 def case_with(poolrun, words, trace, changes):
     """The same of any words and trace."""
-    text = run(poolrun, words, trace.encode())[1]
+    return {"words": words, "trace": trace, "text": changed(run(poolrun, words, trace.encode())[1], changes)}
+
+
+def changed(text, changes):
+    """The text with these places changed, each of which stands there once."""
     for old, new in changes.items():
         assert text.count(old) == 1, old
         text = text.replace(old, new)
-    return {"words": words, "trace": trace, "text": text}
+    return text
 
 
 def json_of(case):
