@@ -1,64 +1,80 @@
-//! What the runs have in common.
+//! A table of runs, and one loop over it.
 
-mod ends;
 mod gates;
-mod judged;
-mod meeting;
-mod model;
-mod stops;
-mod traces;
+mod rows;
 
-use run_check::check_run;
+use crate::tests::gates::Barrier;
+use crate::tests::rows::{GIVEN, MOST, RECEIVER_STOPPED, Row, rows};
 use std::alloc::{AllocError, Global};
-use std::process::Abort;
 use std::sync::Wait;
 use std::test::Fail;
 use std::thread::Threads;
-use trace_top::{Outcome, line_of};
-
-/// The smallest trace with each sort of command: one lane that allocates, sets, gets and releases.
-const SMALLEST: &str = concat!(
-    r#"[[["alloc","a",24],["set","a",0,"68656c6c6f"],"#,
-    r#"["get","a",0,5],["release","a"]]]"#,
-);
-
-/// What is written of it.
-const SMALLEST_TEXT: &str = "\
-0.0 alloc ok 32 0.0+0
-0.1 set ok
-0.2 get ok 68656c6c6f
-0.3 release freed
-chunk 0.0 qInit used 8192 free 4186112
-end roots 1 live 0 leaks 0
-";
+use trace_top::{ListSink, ListSource, Outcome, Status, line_of, run};
 
 // The words of a text, which stand between its spaces.
 fn words_of(alloc: Global, text: &str) -> Result<Vec<String>, AllocError> {
     let mut words = Vec::new(alloc);
-    if !text.is_empty() {
-        for word in text.split(' ') {
-            words.push(String::from_str(alloc, word)?)?;
-        }
+    for word in text.split(' ') {
+        words.push(String::from_str(alloc, word)?)?;
     }
     Ok(words)
 }
 
-// Sees that the run, if there is one, is judged to be legal.
-fn judge<R: AllocGlobal + Abort>(rt: &R, outcome: &Outcome) -> Result<(), Fail> {
-    if let Some(played) = &outcome.run {
-        let is_legal = check_run(rt.alloc(), played.run())?;
-        assert!(rt; is_legal);
+// What comes of a row, under its gate.
+fn ran<R: Threads + Wait + Sync + AllocGlobal>(
+    rt: &R,
+    row: &Row,
+    gate: &Barrier,
+) -> Result<(Outcome, ListSink), AllocError> {
+    let alloc = rt.alloc();
+    let words = words_of(alloc, row.words)?;
+    let mut source = ListSource::new(alloc, row.trace.as_bytes(), GIVEN, &[row.no_read])?;
+    let mut sink = ListSink::new(alloc, row.room, MOST, &[row.no_write])?;
+    let outcome = run(rt, alloc, &words, &mut source, &mut sink, gate);
+    Ok((outcome, sink))
+}
+
+// Whether these are the bytes of a text.
+fn is_text(bytes: &[u8], text: &str) -> bool {
+    bytes == text.as_bytes()
+}
+
+// Whether a row comes to its end.
+fn holds<R: Threads + Wait + Sync + AllocGlobal>(rt: &R, row: &Row) -> Result<bool, AllocError> {
+    let gate = Barrier::new(rt.alloc(), row.stop, row.meets)?;
+    let (outcome, sink) = ran(rt, row, &gate)?;
+    let line = line_of(rt.alloc(), &outcome)?;
+    Ok(
+        outcome.status == row.status
+            && is_text(sink.got(), row.text)
+            && is_text(line.items(), row.line)
+            && gate.was_asked(row.asked),
+    )
+}
+
+#[test]
+fn each_row_comes_to_its_end(rt: HostRuntime) -> Result<(), Fail> {
+    for row in rows() {
+        let words = row.words;
+        assert!(rt; holds(&rt, &row)?, "{words}");
     }
     Ok(())
 }
 
-// Compares the line of an outcome.
-fn expect_line<R: Threads + Wait + Sync + AllocGlobal + Abort>(
-    rt: &R,
-    outcome: &Outcome,
-    want: &str,
-) -> Result<(), Fail> {
-    let line = line_of(rt.alloc(), outcome)?;
-    assert_eq!(rt; str::from_utf8(line.items())?, want);
-    Ok(())
+// `checks/memory` runs it with each allocation refused in turn. Where the receiver of a hand-over is stopped, the
+// run writes its text, or writes nothing and says that memory is out.
+#[test]
+fn tells_where_memory_is_out(rt: HostRuntime) {
+    let row = Row::stopped("--workers 2", (1, 0), RECEIVER_STOPPED, (3, 1));
+    let Ok(gate) = Barrier::new(rt.alloc(), row.stop, false) else {
+        return;
+    };
+    let Ok((outcome, sink)) = ran(&rt, &row, &gate) else {
+        return;
+    };
+    match outcome.status {
+        Status::Leaks => assert!(rt; sink.got() == row.text.as_bytes()),
+        Status::Memory => assert!(rt; sink.got().is_empty()),
+        _ => panic!(rt; "neither its end nor want of memory"),
+    }
 }
