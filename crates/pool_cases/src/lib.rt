@@ -1,24 +1,10 @@
 #![tactic(auto)]
-//! What lies round the pool and the pool itself, as their callers use them.
+//! What no program shows of the pool and of what lies round it: moves that seats share, and a nest that is full.
 //!
 //! A crate with tests is proved twice, once with them; these stand over the crates as they are built,
 //! so that they aren't proved again for them.
 
 #[cfg(test)]
-mod bins;
-#[cfg(test)]
-mod caches;
-#[cfg(test)]
-mod composites;
-#[cfg(test)]
-mod grows;
-#[cfg(test)]
-mod leaks;
-#[cfg(test)]
 mod nests;
 #[cfg(test)]
-mod pools;
-#[cfg(test)]
-mod seats;
-#[cfg(test)]
-mod views;
+mod shares;

@@ -1,17 +1,17 @@
-//! Letters that go by a channel of the caller's own.
+//! Moves go from one lane's seat to another's and back.
 
 ghost use Rattle.std.specs.Prelude.{◌≡◌, ◌∷◌, [], IfOk};
-ghost use Rattle.shared_pool.specs.Opening.{HasRooms, IsOpened};
+ghost use Rattle.shared_pool.specs.Opening.{IsOpened};
 
-use pool_law::{Level, Parcel, Shape};
+use pool_law::{Level, Shape};
 use pool_table::Layout;
-use shared_pool::{Fetched, PoolSeat, SharedPool};
+use shared_pool::{PoolSeat, SharedPool};
 use size_classes::DEFAULT_PAGE;
 use std::alloc::{AllocError, Global};
 use std::mem::ManuallyDrop;
 use std::test::Fail;
 
-// Two lanes with one handle each.
+// Two lanes with one handle and one move each.
 const LAYOUT: Layout = Layout {
     shape: Shape {
         page: DEFAULT_PAGE,
@@ -23,11 +23,16 @@ const LAYOUT: Layout = Layout {
         level: Level::Disabled,
         interval: 128,
     },
-    moves: 8,
+    moves: 1,
     turns: 64,
 };
 
-// A pool whose mails have no room, with the seats of its two lanes.
+fn crosses<T: Send>(x: T) -> T
+    ensures { result ≡ x }
+{
+    x
+}
+
 struct Pair {
     pool: SharedPool,
     first: PoolSeat,
@@ -36,11 +41,10 @@ struct Pair {
 
 fn open_pair(alloc: Global) -> Result<Pair, AllocError>
     ensures layout { IfOk result (λ o. o.pool.layout ≡ LAYOUT) }
-    ensures rooms { IfOk result (λ o. HasRooms o.pool (0 ∷ 0 ∷ 0 ∷ 0 ∷ [])) }
     ensures first { IfOk result (λ o. IsOpened LAYOUT o.pool 0 o.first) }
     ensures second { IfOk result (λ o. IsOpened LAYOUT o.pool 1 o.second) }
 {
-    let (pool, mut seats) = SharedPool::new(alloc, LAYOUT, &[0, 0, 0, 0])?;
+    let (pool, mut seats) = SharedPool::new(alloc, LAYOUT, &[1, 1, 1, 1])?;
     let Some(second) = seats.pop() else {
         unreachable!()
     };
@@ -55,28 +59,19 @@ fn open_pair(alloc: Global) -> Result<Pair, AllocError>
     })
 }
 
-fn crosses<T: Send>(x: T) -> T
-    ensures { result ≡ x }
-{
-    x
-}
-
 #[test]
-fn a_letter_goes_by_another_channel(rt: HostRuntime) -> Result<(), Fail> {
+fn moves_go_there_and_back(rt: HostRuntime) -> Result<(), Fail> {
     let Pair {
         pool,
         mut first,
         mut second,
     } = open_pair(rt.alloc())?;
-    let posted = crosses(pool.send(&mut first, 1, Parcel { view: None }));
-    let letter = posted.letter();
-    assert!(rt; letter.from == 0 && letter.to == 1 && letter.number == 1);
-    match pool.fetch(&rt, &mut second, 0) {
-        Fetched::Got(_, _) => panic!(rt; "the mail has no room"),
-        Fetched::Empty => (),
-    }
-    let (number, parcel) = pool.receive(&mut second, posted);
-    assert!(rt; number == 1 && parcel.view.is_none());
+    let share = crosses(pool.share(&mut second, 1));
+    assert!(rt; share.moves() == 1);
+    pool.accept(&mut first, share);
+    let share = pool.share(&mut first, 2);
+    assert!(rt; share.moves() == 2);
+    pool.accept(&mut second, share);
     let _pool = unsafe { ManuallyDrop::new_unchecked(pool) };
     let _first = unsafe { ManuallyDrop::new_unchecked(first) };
     let _second = unsafe { ManuallyDrop::new_unchecked(second) };

@@ -1,6 +1,6 @@
 use Rattle.shared_pool.specs.Opening.{IsOpened}
-use Rattle.pool_cases.specs.declared.pools.letters.TheConstants.{LAYOUT}
-use Rattle.pool_cases.proofs.pools.letters.open_pair.Goals as goal
+use Rattle.pool_cases.specs.declared.shares.TheConstants.{LAYOUT}
+use Rattle.pool_cases.proofs.shares.open_pair.Goals as goal
 use Rattle.pool_table.proofs.Lists.{two_last}
 
 pub returns-clause-first : goal.returns-clause-first
