@@ -15,8 +15,6 @@ mod hashing;
 mod line;
 mod openings;
 mod run;
-#[cfg(test)]
-mod tests;
 mod text;
 
 use answer::{Outcome, Status};

@@ -17,8 +17,6 @@ mod readers;
 mod reading;
 mod run;
 mod stock;
-#[cfg(test)]
-mod tests;
 mod wholes;
 
 use answer::Status;
