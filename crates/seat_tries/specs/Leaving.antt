@@ -2,6 +2,10 @@
 use Rattle.std.specs.Prelude.{ℕ, ◌+◌, ◌≤◌, false}
 use Rattle.pool_law.specs.declared.note.Held.{Held}
 use Rattle.pool_law.specs.declared.note.Object.{Object}
+use Rattle.pool_law.specs.declared.note.Object.TheVariants.{Bin}
+use Rattle.pool_law.specs.Dids as says
+use Rattle.pool_law.specs.Patterns.{give_back}
+use Rattle.pool_law.specs.Readers.{Reader, ◌>>◌, note, nothing}
 use Rattle.shared_pool.specs.declared.pool.SharedPool.{SharedPool}
 use Rattle.shared_pool.specs.declared.seat.PoolSeat.{PoolSeat}
 use Rattle.shared_pool.specs.Seats.{FoundBusy}
@@ -22,6 +26,13 @@ abbrev pub owed : Begun → ℕ
 owed Nothing = 0
 owed (Place handle) = 1
 owed (Both handle region) = 2
+
+-- how the law of lanes reads on from there
+abbrev pub left_of : Begun → Reader (Unit {0})
+left_of Nothing = nothing
+left_of (Place handle) = note (Bin handle.lane) (says.home handle.place)
+left_of (Both handle region) =
+    give_back region.id >> note (Bin handle.lane) (says.home handle.place)
 
 -- the handle and the region are the pool's
 abbrev pub IsBegun : SharedPool → PoolSeat → Begun → Type 0

@@ -4,13 +4,15 @@
 ghost use Rattle.std.specs.Prelude.{◌≡◌, ◌*◌, ◌<◌, ◌≤◌, Some, IfOk, IfErr};
 ghost use Rattle.size_classes.specs.Sizes.{class_of, size_at};
 ghost use Rattle.pool_law.specs.Limits.{geometry_of, cached_classes};
+ghost use Rattle.pool_law.specs.Patterns.{allot, bear as bears};
 ghost use Rattle.pool_table.specs.Counts.{HasCount};
+ghost use Rattle.shared_pool.specs.SeatLanes.{lane_of};
 ghost use Rattle.shared_pool.specs.SeatViews.{view_of};
 ghost use Rattle.seat_work.specs.Hands.{empty_hand, IsHandle, IsRegion};
 ghost use Rattle.seat_work.specs.Works.{HasBorn, Works};
-ghost use Rattle.seat_work.specs.Answers.{with_place, with_both};
+ghost use Rattle.seat_work.specs.Answers.{with_arena, with_both, with_class, with_place};
 ghost use Rattle.seat_tries.specs.Leaving.{GoesOn};
-ghost use Rattle.seat_tries.specs.Allocations.{allocated, HasCause, HasCauseAt};
+ghost use Rattle.seat_tries.specs.Allocations.{allocated, Allots, HasCause, HasCauseAt};
 
 use crate::begun::{Begun, put_away, put_handle};
 use handle_bin::Handle;
@@ -49,6 +51,9 @@ pub fn allocate(
         IfOk result.0 (λ root. root.place < shape.lanes * shape.handles) }
     ensures born { IfOk result.0 (λ root. HasBorn pool.now root seat.old seat.new) }
     ensures cause { IfErr result.0 (HasCause pool.now seat.old seat.new) }
+    ensures allots { let shape = pool.now.table.layout.shape in
+        Allots (allot shape (lane_of seat.old) size) class watch result.0 result.1
+        (view_of seat.old) (view_of seat.new) }
 {
     match pool.pop_handle(seat) {
         Went::Did(_number, Some(handle)) => allocate_at(pool, seat, handle, size, class, watch),
@@ -68,6 +73,7 @@ fn allocate_at(
 ) -> (Result<RootId, AllocNo>, Begun)
     requires works { Works pool.now (with_place handle.place) 5 0 seat.old }
     requires handle { IsHandle pool.now handle }
+    requires own { handle.lane ≡ lane_of seat.old }
     requires class { class_of (geometry_of pool.now.table.layout.shape) size ≡ Some class }
     ensures goes { GoesOn pool.now 5 (allocated result.0) seat.old seat.new result.1 }
     ensures root { IfOk result.0 (λ root.
@@ -76,6 +82,9 @@ fn allocate_at(
         IfOk result.0 (λ root. root.place < shape.lanes * shape.handles) }
     ensures born { IfOk result.0 (λ root. HasBorn pool.now root seat.old seat.new) }
     ensures cause { IfErr result.0 (HasCauseAt pool.now handle.place seat.old seat.new) }
+    ensures allots { let shape = pool.now.table.layout.shape in
+        Allots (with_class shape (lane_of seat.old) class size handle.place) class watch
+        result.0 result.1 (view_of seat.old) (view_of seat.new) }
 {
     if class >= CACHED_CLASSES {
         return from_arena(pool, seat, handle, size, class, watch);
@@ -95,6 +104,7 @@ fn from_cache(
 ) -> (Result<RootId, AllocNo>, Begun)
     requires works { Works pool.now (with_place handle.place) 5 0 seat.old }
     requires handle { IsHandle pool.now handle }
+    requires own { handle.lane ≡ lane_of seat.old }
     requires class { class_of (geometry_of pool.now.table.layout.shape) size ≡ Some class }
     requires cached { class < cached_classes }
     ensures goes { GoesOn pool.now 5 (allocated result.0) seat.old seat.new result.1 }
@@ -104,6 +114,9 @@ fn from_cache(
         IfOk result.0 (λ root. root.place < shape.lanes * shape.handles) }
     ensures born { IfOk result.0 (λ root. HasBorn pool.now root seat.old seat.new) }
     ensures cause { IfErr result.0 (HasCauseAt pool.now handle.place seat.old seat.new) }
+    ensures allots { let shape = pool.now.table.layout.shape in
+        Allots (with_class shape (lane_of seat.old) class size handle.place) class watch
+        result.0 result.1 (view_of seat.old) (view_of seat.new) }
 {
     match pool.pop_cached(seat, class) {
         Went::Did(_number, Some(region)) => bear(pool, seat, handle, region, size, watch),
@@ -124,6 +137,7 @@ fn from_arena(
 ) -> (Result<RootId, AllocNo>, Begun)
     requires works { Works pool.now (with_place handle.place) 4 0 seat.old }
     requires handle { IsHandle pool.now handle }
+    requires own { handle.lane ≡ lane_of seat.old }
     requires class { class_of (geometry_of pool.now.table.layout.shape) size ≡ Some class }
     ensures goes { GoesOn pool.now 4 (allocated result.0) seat.old seat.new result.1 }
     ensures root { IfOk result.0 (λ root.
@@ -132,6 +146,9 @@ fn from_arena(
         IfOk result.0 (λ root. root.place < shape.lanes * shape.handles) }
     ensures born { IfOk result.0 (λ root. HasBorn pool.now root seat.old seat.new) }
     ensures cause { IfErr result.0 (HasCauseAt pool.now handle.place seat.old seat.new) }
+    ensures allots { let shape = pool.now.table.layout.shape in
+        Allots (with_arena shape (lane_of seat.old) class size handle.place) class watch
+        result.0 result.1 (view_of seat.old) (view_of seat.new) }
 {
     match pool.take(seat, class) {
         Went::Did(_number, Some(region)) => bear(pool, seat, handle, region, size, watch),
@@ -160,6 +177,8 @@ fn bear(
         IfOk result.0 (λ root. root.place < shape.lanes * shape.handles) }
     ensures born { IfOk result.0 (λ root. HasBorn pool.now root seat.old seat.new) }
     ensures cause { IfErr result.0 (HasCauseAt pool.now own.place seat.old seat.new) }
+    ensures allots { Allots (bears (lane_of seat.old) own.place size (Some piece.id))
+        piece.id.class watch result.0 result.1 (view_of seat.old) (view_of seat.new) }
 {
     match pool.try_birth(seat, own, piece, size, watch) {
         Ok((_number, root)) => (Ok(root), Begun::Nothing),

@@ -1,12 +1,17 @@
 //! What a seat began and could not end, since another seat was in the way.
 
 ghost use Rattle.std.specs.Prelude.{◌<◌};
+ghost use Rattle.pool_law.specs.declared.note.Object.TheVariants.{Bin};
+ghost use Rattle.pool_law.specs.Dids as says;
 ghost use Rattle.pool_law.specs.Limits.{cached_classes};
+ghost use Rattle.pool_law.specs.Readers.{note};
+ghost use Rattle.shared_pool.specs.SeatViews.{view_of};
 ghost use Rattle.seat_work.specs.Hands.{IsHandle, IsRegion};
 ghost use Rattle.seat_work.specs.Changes.{no_change};
+ghost use Rattle.seat_work.specs.Readings.{NotesOn};
 ghost use Rattle.seat_work.specs.Works.{Works};
 ghost use Rattle.seat_work.specs.Answers.{with_place, with_both};
-ghost use Rattle.seat_tries.specs.Leaving.{hand_of, owed, IsBegun, GoesOn};
+ghost use Rattle.seat_tries.specs.Leaving.{hand_of, left_of, owed, IsBegun, GoesOn};
 
 use handle_bin::Handle;
 use pool_law::Region;
@@ -87,7 +92,9 @@ fn give_region(pool: &SharedPool, seat: &mut PoolSeat, handle: Handle, own: Regi
 pub(crate) fn put_handle(pool: &SharedPool, seat: &mut PoolSeat, own: Handle) -> Begun
     requires works { Works pool.now (with_place own.place) 1 0 seat.old }
     requires handle { IsHandle pool.now own }
-    ensures { GoesOn pool.now 1 no_change seat.old seat.new result }
+    ensures goes { GoesOn pool.now 1 no_change seat.old seat.new result }
+    ensures reads { NotesOn (note (Bin own.lane) (says.home own.place)) (left_of result)
+        (view_of seat.old) (view_of seat.new) }
 {
     match pool.put_handle(seat, own) {
         Went::Did(_number, ()) => Begun::Nothing,

@@ -1,4 +1,4 @@
-use Rattle.std.proofs.Common.{subst, arith}
+use Rattle.std.proofs.Common.{subst, arith, ◌∙◌, refl, sym}
 use Rattle.std.specs.Prelude.{Option, Some, None, IfSome, ◌≡◌}
 use Rattle.handle_bin.specs.Bins.{HandleValue}
 use Rattle.pool_law.specs.declared.note.Object.TheVariants.{Bin}
@@ -14,6 +14,8 @@ use Rattle.seat_work.proofs.Later.{later_has, later_noted, quiet_popped}
 use Rattle.seat_work.proofs.Proceeding.{proceeds_none, works_after}
 use Rattle.seat_tries.specs.Allocations.{allocated}
 use Rattle.seat_tries.proofs.Goings.{goes_then, if_born_later, if_cause_first, leaves_none, meets, works_less}
+use Rattle.seat_work.proofs.Handles.{handle_noted}
+use Rattle.seat_tries.proofs.TriedNotes.{got_then, noted_lane}
 use Rattle.seat_tries.proofs.allocation.allocate.Goals as goal
 
 pub allocate_at-requires-clause-works : goal.allocate_at-requires-clause-works
@@ -92,3 +94,27 @@ returns-in-Held-clause-cause c =
     let held = c.in-Held in
     meets c.args.pool.now c.args.seat.now c.pop_handle.new.seat (Bin (lane_of c.args.seat.now)) held._held
     c.requires.works.seat held.ensures.seat held.ensures.held
+
+pub allocate_at-requires-clause-own : goal.allocate_at-requires-clause-own
+allocate_at-requires-clause-own c =
+    let pool = c.args.pool.now in let old = c.args.seat.now in let mid = c.pop_handle.new.seat in
+    let did = c.in-Did-default-Some in let lane = lane_of old in
+    (subst (λ (o : Option HandleValue). IfSome o (λ h. HoldsHandle pool mid h × (h.lane ≡ lane))) did.field-1-is
+    did.ensures.handle).1 ∙ sym (noted_lane pool old mid _ did._number _ did.ensures.did)
+
+pub returns-in-Did-default-Some-clause-allots : goal.returns-in-Did-default-Some-clause-allots
+returns-in-Did-default-Some-clause-allots c =
+    let a = c.args in let pool = a.pool.now in let old = a.seat.now in let mid = c.pop_handle.new.seat in
+    let did = c.in-Did-default-Some in let next = c.allocate_at in
+    got_then pool old mid next.new.seat a.class a.size a.watch next.result.0 next.result.1 did.handle.place did._number
+    c.requires.class did.handle refl
+    (subst (λ (o : Option HandleValue). IsNoted pool old mid (Bin (lane_of old)) did._number (plain (popped o)))
+    did.field-1-is did.ensures.did) next.ensures.allots
+
+pub returns-in-Did-default-None-clause-allots : goal.returns-in-Did-default-None-clause-allots
+returns-in-Did-default-None-clause-allots c =
+    let pool = c.args.pool.now in let old = c.args.seat.now in let new = c.pop_handle.new.seat in
+    let did = c.in-Did-default-None in
+    handle_noted pool old new None did._number
+    (subst (λ (o : Option HandleValue). IsNoted pool old new (Bin (lane_of old)) did._number (plain (popped o)))
+    did.field-1-is did.ensures.did) c.args.size

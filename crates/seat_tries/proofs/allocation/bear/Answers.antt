@@ -10,6 +10,9 @@ use Rattle.seat_work.proofs.Holds.{holds_handle, holds_region, region_stays}
 use Rattle.seat_work.proofs.Later.{born_with, later_born, later_has, later_none, later_on}
 use Rattle.seat_work.proofs.Proceeding.{proceeds_none, works_same}
 use Rattle.seat_tries.proofs.Goings.{goes_then, leaves_none, works_less}
+use Rattle.shared_pool.specs.SeatLanes.{lane_of}
+use Rattle.shared_pool.specs.SeatViews.{view_of}
+use Rattle.seat_work.proofs.PartReads.{birth_noted}
 use Rattle.seat_tries.proofs.allocation.bear.Goals as goal
 
 pub try_birth-requires-clause-handle : goal.try_birth-requires-clause-handle
@@ -85,3 +88,9 @@ returns-in-Err-clause-cause c =
           later_on pool old mid c.put_away.new.seat
           (later_has pool old mid kept.same c.requires.works.seat kept.seat kept.back.2) c.put_away.ensures.later;
     }
+
+pub returns-in-Ok-clause-allots : goal.returns-in-Ok-clause-allots
+returns-in-Ok-clause-allots c =
+    let born = c.in-Ok.ensures {u = tt} in let old = c.args.seat.now in
+    birth_noted c.args.pool.now old c.try_birth.new.seat (lane_of old) c.args.own.place c.args.size c.args.piece.id
+    c.in-Ok.root c.in-Ok._number (view_of old).moves c.args.watch born.root.0 born.root.1 born.did

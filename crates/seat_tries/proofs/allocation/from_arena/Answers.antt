@@ -17,6 +17,7 @@ use Rattle.seat_work.proofs.Later.{later_has, later_noted, quiet_taken}
 use Rattle.seat_work.proofs.Proceeding.{proceeds_none, works_after, works_same}
 use Rattle.seat_tries.specs.Allocations.{allocated}
 use Rattle.seat_tries.proofs.Goings.{goes_first, goes_then, if_born_later, if_cause_on, meets, meets_then, works_less}
+use Rattle.seat_tries.proofs.TriedNotes.{full_then, taken_then}
 use Rattle.seat_tries.proofs.allocation.from_arena.Goals as goal
 
 pub take-requires-clause-class : goal.take-requires-clause-class
@@ -109,7 +110,7 @@ returns-in-Did-default-None-clause-goes c =
     c.args.class None (works_less pool (with_place place) 4 0 1 0 old works (omega arith) (omega arith))
     (subst (λ (o : Option Region).
     IsNoted pool old mid (Arena (lane_of old % pool.table.layout.shape.arenas)) did._number
-    (plain (taken_or_full c.args.class o))) did.field-1-is did.ensures.did)) call.ensures
+    (plain (taken_or_full c.args.class o))) did.field-1-is did.ensures.did)) call.ensures.goes
 
 pub put_handle-requires-in-Held-clause-works : goal.put_handle-requires-in-Held-clause-works
 put_handle-requires-in-Held-clause-works c =
@@ -126,7 +127,7 @@ returns-in-Held-clause-goes c =
     goes_then pool no_change (with_place place) 0 1 4 old mid call.new.seat call.result
     (later_has pool old mid held.ensures.same works.seat held.ensures.seat held.ensures.held.marked) (omega arith)
     (proceeds_none pool (with_place place) 4 0 0 0 old mid works held.ensures.seat held.ensures.held.marked)
-    call.ensures
+    call.ensures.goes
 
 pub returns-in-Held-clause-cause : goal.returns-in-Held-clause-cause
 returns-in-Held-clause-cause c =
@@ -134,4 +135,27 @@ returns-in-Held-clause-cause c =
     let call = c.put_handle-in-Held in
     meets_then pool old mid call.new.seat
     (meets pool old mid (Arena (lane_of old % pool.table.layout.shape.arenas)) held._held c.requires.works.seat
-    held.ensures.seat held.ensures.held) call.ensures.later
+    held.ensures.seat held.ensures.held) call.ensures.goes.later
+
+pub returns-in-Did-default-Some-clause-allots : goal.returns-in-Did-default-Some-clause-allots
+returns-in-Did-default-Some-clause-allots c =
+    let a = c.args in let pool = a.pool.now in let old = a.seat.now in let mid = c.take.new.seat in
+    let did = c.in-Did-default-Some in let lane = lane_of old in
+    taken_then pool old mid c.bear.new.seat a.class a.size a.watch c.bear.result.0 c.bear.result.1 a.handle.place
+    did._number did.region
+    (subst (λ (o : Option Region).
+    IsNoted pool old mid (Arena (lane % pool.table.layout.shape.arenas)) did._number (plain (taken_or_full a.class o)))
+    did.field-1-is did.ensures.did)
+    (taken_region pool mid (Some did.region) lane a.class
+    (subst (λ (o : Option Region). IfSome o (λ r.
+    HoldsRegion pool mid r × (r.id.owner ≡ lane) × (r.id.class ≡ a.class) × (r.id.uses ≡ 0)))
+    did.field-1-is did.ensures.region)).1 c.bear.ensures.allots
+
+pub returns-in-Did-default-None-clause-allots : goal.returns-in-Did-default-None-clause-allots
+returns-in-Did-default-None-clause-allots c =
+    let a = c.args in let pool = a.pool.now in let old = a.seat.now in let mid = c.take.new.seat in
+    let did = c.in-Did-default-None in let call = c.put_handle in
+    full_then pool old mid call.new.seat a.class a.size did._number a.handle call.result c.requires.own
+    (subst (λ (o : Option Region).
+    IsNoted pool old mid (Arena (lane_of old % pool.table.layout.shape.arenas)) did._number
+    (plain (taken_or_full a.class o))) did.field-1-is did.ensures.did) call.ensures.reads

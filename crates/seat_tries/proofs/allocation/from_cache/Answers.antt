@@ -1,5 +1,5 @@
-use Rattle.std.proofs.Common.{ℕ, ◌≤◌, sym, subst, arith}
-use Rattle.std.specs.Prelude.{Option, Some, None, IfSome, ◌≡◌}
+use Rattle.std.proofs.Common.{ℕ, ◌≤◌, sym, subst, arith, ◌∙◌, ap}
+use Rattle.std.specs.Prelude.{Option, Some, None, IfSome, ◌≡◌, unwrap_or}
 use Rattle.size_classes.specs.Sizes.{size_at}
 use Rattle.pool_law.specs.Limits.{geometry_of}
 use Rattle.pool_law.specs.declared.id.Region.{Region}
@@ -15,6 +15,7 @@ use Rattle.seat_work.proofs.Later.{later_busy, later_noted, quiet_hit}
 use Rattle.seat_work.proofs.Proceeding.{works_after}
 use Rattle.seat_tries.specs.Allocations.{allocated}
 use Rattle.seat_tries.proofs.Goings.{goes_then, if_born_later, if_cause_on, works_less}
+use Rattle.seat_tries.proofs.TriedNotes.{hit_then, missed_then, noted_lane, passed_then}
 use Rattle.seat_tries.proofs.allocation.from_cache.Goals as goal
 
 pub bear-requires-clause-works : goal.bear-requires-clause-works
@@ -158,3 +159,41 @@ returns-in-Held-clause-cause c =
     if_cause_on pool old mid next.new.seat c.args.handle.place next.result.0
     (later_busy pool old mid held.ensures.same c.requires.works.seat held.ensures.seat
     (Cache (lane_of old) c.args.class) held._held held.ensures.held) next.ensures.cause
+
+pub returns-in-Did-default-Some-clause-allots : goal.returns-in-Did-default-Some-clause-allots
+returns-in-Did-default-Some-clause-allots c =
+    let a = c.args in let pool = a.pool.now in let old = a.seat.now in let mid = c.pop_cached.new.seat in
+    let did = c.in-Did-default-Some in let lane = lane_of old in
+    hit_then pool old mid c.bear.new.seat a.class a.size a.watch c.bear.result.0 c.bear.result.1 a.handle.place
+    did._number c.requires.cached did.region
+    (subst (λ (o : Option Region). IsNoted pool old mid (Cache lane a.class) did._number (plain (hit o)))
+    did.field-1-is did.ensures.did)
+    (subst (λ (o : Option Region). IfSome o (λ r.
+    HoldsRegion pool mid r × (r.id.owner ≡ lane) × (r.id.class ≡ a.class)))
+    did.field-1-is did.ensures.region).2 c.bear.ensures.allots
+
+pub from_arena-requires-clause-own : goal.from_arena-requires-clause-own
+from_arena-requires-clause-own c =
+    let pool = c.args.pool.now in let old = c.args.seat.now in let mid = c.pop_cached.new.seat in
+    let did = c.in-Did-default-None in
+    c.requires.own ∙ sym (noted_lane pool old mid _ did._number _ did.ensures.did)
+
+pub returns-in-Did-default-None-clause-allots : goal.returns-in-Did-default-None-clause-allots
+returns-in-Did-default-None-clause-allots c =
+    let a = c.args in let pool = a.pool.now in let old = a.seat.now in let mid = c.pop_cached.new.seat in
+    let did = c.in-Did-default-None in let next = c.from_arena in
+    missed_then pool old mid next.new.seat a.class a.size a.watch next.result.0 next.result.1 a.handle.place
+    c.requires.cached did._number
+    (subst (λ (o : Option Region). IsNoted pool old mid (Cache (lane_of old) a.class) did._number (plain (hit o)))
+    did.field-1-is did.ensures.did) next.ensures.allots
+
+pub from_arena-requires-in-Held-clause-own : goal.from_arena-requires-in-Held-clause-own
+from_arena-requires-in-Held-clause-own c =
+    c.requires.own ∙ sym (ap (λ m. unwrap_or m.0.own.number 0) c.in-Held.ensures.held.marked)
+
+pub returns-in-Held-clause-allots : goal.returns-in-Held-clause-allots
+returns-in-Held-clause-allots c =
+    let a = c.args in let pool = a.pool.now in let old = a.seat.now in let mid = c.pop_cached.new.seat in
+    let held = c.in-Held in let next = c.from_arena-in-Held in
+    passed_then pool old mid next.new.seat a.class a.size a.watch next.result.0 next.result.1 a.handle.place
+    c.requires.cached held._held held.ensures.held next.ensures.allots

@@ -39,7 +39,7 @@ pub returns-in-Place : goal.returns-in-Place
 returns-in-Place c =
     let call = c.put_handle in
     subst (λ (t : ℕ). GoesOn c.args.pool.now t no_change c.args.seat.now call.new.seat call.result)
-    (sym (ap owed c.in-Place.is)) call.ensures
+    (sym (ap owed c.in-Place.is)) call.ensures.goes
 
 pub returns-in-Both : goal.returns-in-Both
 returns-in-Both c =

@@ -32,7 +32,7 @@ returns-in-Did c =
     (later_noted pool old mid did.ensures.same works.seat did.ensures.seat did.ensures.did refl) (omega arith)
     (gave_region pool old mid did.ensures.seat did._number (Some place) own
     (works_less pool (with_both place own.id) 2 0 1 0 old works (omega arith) (omega arith)) did.ensures.did)
-    c.put_handle.ensures
+    c.put_handle.ensures.goes
 
 pub returns-in-Held : goal.returns-in-Held
 returns-in-Held c =

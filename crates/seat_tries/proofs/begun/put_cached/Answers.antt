@@ -45,7 +45,7 @@ returns-in-Did-default-Kept c =
     (works_less pool hand 3 0 1 0 old c.requires.works (omega arith) (omega arith))
     (subst (λ (x : Put).
     IsNoted pool old mid (Cache own.id.owner own.id.class) did._number (plain (was_put own.id x)))
-    did.field-1-is did.ensures.did)) next.ensures
+    did.field-1-is did.ensures.did)) next.ensures.goes
 
 -- the region came back, or another seat was in the cache: it goes to its arena
 pub give_region-requires-clause-works : goal.give_region-requires-clause-works

@@ -1,4 +1,11 @@
-use Rattle.std.proofs.Common.{refl, arith}
+use Rattle.std.proofs.Common.{refl, sym, ap, subst, arith}
+use Rattle.handle_bin.specs.Bins.{HandleValue}
+use Rattle.pool_law.specs.Dids as says
+use Rattle.pool_law.specs.Readers.{note}
+use Rattle.shared_pool.specs.SeatViews.{view_of}
+use Rattle.seat_work.specs.Readings.{NotesOn}
+use Rattle.seat_work.proofs.Handles.{home_noted}
+use Rattle.seat_work.proofs.Noting.{notes_none}
 use Rattle.pool_law.specs.declared.note.Object.TheVariants.{Bin}
 use Rattle.seat_work.specs.Answers.{with_place}
 use Rattle.seat_work.specs.Changes.{no_change}
@@ -17,12 +24,25 @@ pub returns-in-Did : goal.returns-in-Did
 returns-in-Did c =
     let pool = c.args.pool.now in let old = c.args.seat.now in let new = c.put_handle.new.seat in
     let did = c.in-Did in
-    leaves_none pool no_change 1 1 old new (omega arith)
-    (handle_home pool old new did.ensures.seat did._number c.args.own c.requires.works did.ensures.did)
-    (later_noted pool old new did.ensures.same c.requires.works.seat did.ensures.seat did.ensures.did refl)
+    record {
+      goes =
+          leaves_none pool no_change 1 1 old new (omega arith)
+          (handle_home pool old new did.ensures.seat did._number c.args.own c.requires.works did.ensures.did)
+          (later_noted pool old new did.ensures.same c.requires.works.seat did.ensures.seat did.ensures.did refl);
+      reads = home_noted pool old new c.args.own did._number did.ensures.did;
+    }
 
 pub returns-in-Held : goal.returns-in-Held
 returns-in-Held c =
     let held = c.in-Held in let own = c.args.own in let found = held.ensures.held in
-    leaves_place c.args.pool.now c.args.seat.now c.put_handle.new.seat (Bin own.lane) held._held held.ensures.same
-    held.ensures.seat found.1 own held.handle 1 (omega arith) c.requires.works c.requires.handle found.0
+    let old = c.args.seat.now in let new = c.put_handle.new.seat in
+    let homes = note (Bin own.lane) (says.home own.place) in
+    record {
+      goes =
+          leaves_place c.args.pool.now old new (Bin own.lane) held._held held.ensures.same held.ensures.seat found.1 own
+          held.handle 1 (omega arith) c.requires.works c.requires.handle found.0;
+      reads =
+          subst (λ (h : HandleValue).
+          NotesOn homes (note (Bin h.lane) (says.home h.place)) (view_of old) (view_of new)) (sym found.0)
+          (notes_none homes (view_of old) (view_of new) (ap (λ m. m.0) found.1.marked));
+    }
