@@ -44,12 +44,17 @@ static void handles(void)
 
 static void buffers(void)
 {
+    uint8_t got[3] = {0};
     struct pool_buffer b, c, many[4];
     show("alloc", pool_alloc(&t[0], 64, &b));
     show("set", pool_set(&t[0], &b, 0, bytes, 64));
     show("by another thread", pool_set(&t[1], &b, 0, bytes, 64));
     show("by another pool", pool_set(&other[0], &b, 0, bytes, 64));
+    show("set the last three", pool_set(&t[0], &b, 61, bytes, 3));
+    show("get them", pool_get(&t[0], &b, 61, got, 3));
+    printf("bytes: %d %d %d\n", got[0], got[1], got[2]);
     c = b, c.thread = 1;
+    show("with another thread's number", pool_get(&t[0], &c, 0, bytes, 1));
     show("with another thread's number, by that", pool_get(&t[1], &c, 0, bytes, 1));
     c = b, c.pool = 8;
     show("with another pool's name, by that", pool_get(&other[0], &c, 0, bytes, 1));
