@@ -15,9 +15,9 @@ def notes_of(text):
     return {of: sorted(told, key=lambda note: int(note.split()[0])) for of, told in notes.items()}
 
 
-def lives(count, size, name="a"):
+def lives(count, size, name):
     """So many buffers, one after another."""
-    return [command for _ in range(count) for command in (["alloc", name, size], ["release", name])]
+    return [command for k in range(count) for command in (["alloc", f"{name}{k}", size], ["release", f"{name}{k}"])]
 
 
 # Words, lanes, and of an object its notes.
@@ -25,7 +25,7 @@ NOTED = [
     # a lane's handles are its places in ascending order; one that comes home stands behind the others
     (
         "--handles 3",
-        [[], [], [*lives(1, 16), *(["alloc", name, 16] for name in "bcde")]],
+        [[], [], [*lives(1, 16, "a"), *(["alloc", name, 16] for name in "bcde")]],
         "bin 2",
         ["1 handle 6", "2 home 6", "3 handle 7", "4 handle 8", "5 handle 6", "6 none"],
     ),
@@ -101,7 +101,7 @@ def try_unneeded(poolrun):
     many = 256
     for hits in (0, 10):
         commands = [["alloc", f"a{k}", 32] for k in range(many)] + [["release", f"a{k}"] for k in range(many)]
-        commands += lives(hits, 32) + lives(8192 - many - hits, 16)
+        commands += lives(hits, 32, "b") + lives(8192 - many - hits, 16, "c")
         status, text, _ = run(poolrun, ["--history"], json.dumps([commands]).encode())
         lines = text.split("\n")
         gives = [line for line in lines if line.startswith("note 0 arena 0 ") and " give " in line]
