@@ -11,6 +11,7 @@ pub mod MoveLaws
 pub mod Accessing
 pub mod Settling
 pub mod Asking
+pub mod Allotted
 pub mod Trims
 pub mod Passing
 pub mod Lists

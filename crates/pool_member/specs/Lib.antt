@@ -15,3 +15,4 @@ pub mod Configs
 pub mod Opening
 pub mod Closing
 pub mod Watching
+pub mod Allotting

@@ -7,10 +7,11 @@ ghost use Rattle.seat_work.specs.Answers.{allocated};
 ghost use Rattle.seat_work.specs.Works.{HasBorn};
 ghost use Rattle.pool_member.specs.Counting.{counted};
 ghost use Rattle.seat_tries.specs.Allocations as tries;
+ghost use Rattle.pool_member.specs.Allotting.{BearsOf, IsAllotted, IsRefused, IsTryRefused, TriesOf};
 ghost use Rattle.pool_member.specs.Answers.{as_alloc, HasCause};
 ghost use Rattle.pool_member.specs.Attempts.{as_try, HasTryCause};
 ghost use Rattle.pool_member.specs.Threads.{Does, IsSettled, IsThread};
-ghost use Rattle.pool_member.specs.Watching.{with_next};
+ghost use Rattle.pool_member.specs.Watching.{watch_next, with_next};
 
 use crate::member::Member;
 use crate::pending::Pending;
@@ -44,6 +45,9 @@ pub fn allocate<W: Wait>(
     ensures born { IfOk result (λ root. HasBorn pool.now root member.old.seat member.new.seat) }
     ensures cause { IfErr result (λ no.
         HasCause pool.now member.old member.new (as_alloc no)) }
+    ensures notes { MatchResult result
+        (λ root. IsAllotted pool.now size root member.old member.new)
+        (λ no. IsRefused pool.now size (as_alloc no) member.old member.new) }
 {
     settle(rt, pool, member);
     member.account.turns -= 6;
@@ -78,6 +82,9 @@ pub fn try_allocate(
     ensures born { IfOk result (λ root. HasBorn pool.now root member.old.seat member.new.seat) }
     ensures cause { IfErr result (λ no.
         HasTryCause pool.now member.old member.new (as_try no)) }
+    ensures notes { MatchResult result
+        (λ root. IsAllotted pool.now size root member.old member.new)
+        (λ no. IsTryRefused pool.now size (as_try no) member.old member.new) }
 {
     if try_settle(pool, member) {
         return try_allocate_settled(pool, member, size, class);
@@ -106,6 +113,10 @@ fn try_allocate_settled(
         (λ _. member.new.watcher ≡ member.old.watcher) }
     ensures born { IfOk result (λ root. HasBorn pool.now root member.old.seat member.new.seat) }
     ensures cause { IfErr result (tries.HasCause pool.now member.old.seat member.new.seat) }
+    ensures notes { MatchResult result
+        (λ root. let watch = watch_next member.old.watcher in
+        BearsOf pool.now size watch root member.old.seat member.new.seat)
+        (λ no. TriesOf pool.now size no member.old.seat member.new) }
 {
     member.account.turns -= 6;
     let watch = member.watcher.watch();

@@ -1,4 +1,4 @@
-use Rattle.std.proofs.Common.{◌-◌, None, refl, arith}
+use Rattle.std.proofs.Common.{◌-◌, None, refl, arith, ap, ◌∙◌}
 use Rattle.seat_work.specs.Answers.{refused}
 use Rattle.seat_work.specs.Changes.{once_more}
 use Rattle.seat_work.proofs.Later.{born_on}
@@ -8,6 +8,9 @@ use Rattle.pool_member.proofs.AloneLater.{stays_later}
 use Rattle.pool_member.proofs.Keeping.{alone_at, few_of, may_begin, settled_on, spends_more, spends_none, tells_settled, times_one}
 use Rattle.pool_member.proofs.Letters.{later_letters}
 use Rattle.pool_member.proofs.Settling.{alloc_cause, settled_does, still_turns}
+use Rattle.pool_member.specs.Allotting.{BearsOf}
+use Rattle.pool_member.specs.Watching.{watch_next}
+use Rattle.pool_member.proofs.Allotted.{bears_of, from_settled, refused_of}
 use Rattle.pool_member.proofs.work.allocation.allocate.Goals as goal
 
 pub overflow_sub-member : goal.overflow_sub-member
@@ -91,3 +94,22 @@ returns-in-Err-clause-cause g c =
       account = record mid.account { turns = mid.account.turns - 6 };
     } in
     alloc_cause c.args.pool.now c.args.member.now mid new c.settle.ensures.settles c.in-Err.no c.in-Err.ensures.worn
+
+pub returns-in-Ok-clause-notes : goal.returns-in-Ok-clause-notes
+returns-in-Ok-clause-notes g c =
+    let a = c.args in let pool = a.pool.now in let old = a.member.now in let mid = c.settle.new.member in
+    let new = c.allocate.new.seat in let settles = c.settle.ensures.settles in
+    let next = watch_next old.watcher in let watch = c.watch-watch in
+    from_settled pool (λ m. BearsOf pool a.size next c.in-Ok.root m new) old mid settles c.settle.ensures.settled
+    (bears_of pool a.size a.class watch.result mid.seat new c.requires.class next
+    (watch.ensures ∙ ap (λ (m : Member). watch_next m.watcher) settles.rest) c.in-Ok.root c.in-Ok.ensures.allots)
+
+pub returns-in-Err-clause-notes : goal.returns-in-Err-clause-notes
+returns-in-Err-clause-notes g c =
+    let a = c.args in let mid = c.settle.new.member in
+    let new : Member = record mid {
+      seat = c.allocate.new.seat;
+      account = record mid.account { turns = mid.account.turns - 6 };
+    } in
+    refused_of a.pool.now a.size a.class c.watch-watch.result a.member.now mid new c.settle.ensures.settles
+    c.settle.ensures.settled c.in-Err.no c.in-Err.ensures.allots

@@ -4,6 +4,7 @@ use Rattle.seat_tries.specs.Allocations.{allocated}
 use Rattle.pool_member.specs.declared.account.Account.{Account}
 use Rattle.pool_member.specs.declared.member.Member.{Member}
 use Rattle.pool_member.proofs.Settling.{if_cause_on, if_tried_born_on, same_account, settled_does, spends_only}
+use Rattle.pool_member.proofs.Allotted.{tried_on}
 use Rattle.pool_member.proofs.work.allocation.try_allocate.Goals as goal
 
 pub returns-then-try_settle-clause-does : goal.returns-then-try_settle-clause-does
@@ -30,3 +31,9 @@ returns-clause-does c =
     settled_does pool old mid after 6 no_change None settles
     (spends_only pool mid 6 None settles.thread
     (subst (λ (a : Account). 6 ≤ a.turns) (sym (same_account pool old mid settles)) c.requires.turns))
+
+pub returns-then-try_settle-clause-notes : goal.returns-then-try_settle-clause-notes
+returns-then-try_settle-clause-notes c =
+    let call = c.try_allocate_settled in
+    tried_on c.args.pool.now c.args.size c.args.member.now c.try_settle.new.member call.new.member
+    c.try_settle.ensures.settles (c.try_settle.ensures.settled.0 c.if-try_settle.true) call.result call.ensures.notes

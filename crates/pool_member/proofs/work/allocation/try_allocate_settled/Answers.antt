@@ -6,7 +6,7 @@ use Rattle.shared_pool.specs.SeatViews.{view_of}
 use Rattle.seat_work.specs.Changes.{once_more}
 use Rattle.seat_work.proofs.Counting.{one_self}
 use Rattle.seat_tries.specs.declared.allocation.AllocNo.{AllocNo}
-use Rattle.seat_tries.specs.Allocations.{allocated, refused}
+use Rattle.seat_tries.specs.Allocations.{allocated, refused, Allots}
 use Rattle.seat_tries.specs.Leaving.{GoesOn}
 use Rattle.pool_member.specs.declared.member.Member.{Member}
 use Rattle.pool_member.specs.declared.pending.Pending.{Pending}
@@ -16,6 +16,10 @@ use Rattle.pool_member.proofs.AloneLater.{stays_later}
 use Rattle.pool_member.proofs.Keeping.{alone_at, few_of, kept_on, may_begin, spends_more, spends_none, tells_known, times_one}
 use Rattle.pool_member.proofs.Letters.{later_letters}
 use Rattle.pool_member.proofs.Settling.{none_got, none_gone}
+use Rattle.pool_law.specs.Patterns.{allot}
+use Rattle.shared_pool.specs.SeatLanes.{lane_of}
+use Rattle.pool_member.specs.Watching.{watch_next}
+use Rattle.pool_member.proofs.Allotted.{bears_of, tried_of}
 use Rattle.pool_member.proofs.work.allocation.try_allocate_settled.Goals as goal
 
 pub allocate-answer-requires-clause-works : goal.allocate-answer-requires-clause-works
@@ -95,3 +99,28 @@ returns-in-Err-clause-does c =
     (let a = did.goes.moves_left in let b = is.works.moves_left in omega (arith, a, b)) goes.begun
     (later_letters pool old.seat call.new.seat goes.later) refl None
     (stays_later pool old.seat call.new.seat goes.later) (λ q kept. kept))
+
+pub returns-in-Ok-clause-notes : goal.returns-in-Ok-clause-notes
+returns-in-Ok-clause-notes c =
+    let a = c.args in let pool = a.pool.now in let old = a.member.now in let call = c.allocate-answer in
+    let new = call.new.seat in let watch = c.watch-watch in
+    let whole = allot pool.table.layout.shape (lane_of old.seat) a.size in
+    bears_of pool a.size a.class watch.result old.seat new c.requires.class (watch_next old.watcher) watch.ensures
+    c.in-Ok.root
+    (subst (λ (r : Result RootId AllocNo).
+    Allots whole a.class watch.result r call.result.1 (view_of old.seat) (view_of new)) c.in-Ok.is
+    call.ensures.allots)
+
+pub returns-in-Err-clause-notes : goal.returns-in-Err-clause-notes
+returns-in-Err-clause-notes c =
+    let a = c.args in let pool = a.pool.now in let old = a.member.now in let call = c.allocate-answer in
+    let new : Member = record old {
+      seat = call.new.seat;
+      account = record old.account { turns = old.account.turns - 6 };
+      pending = c.keep.new.pending;
+    } in
+    let watch = c.watch-watch in let whole = allot pool.table.layout.shape (lane_of old.seat) a.size in
+    tried_of pool a.size a.class watch.result old.seat new call.result.1 c.keep.ensures c.in-Err.no
+    (subst (λ (r : Result RootId AllocNo).
+    Allots whole a.class watch.result r call.result.1 (view_of old.seat) (view_of call.new.seat)) c.in-Err.is
+    call.ensures.allots)
