@@ -8,6 +8,7 @@ ghost use Rattle.pool_law.specs.Limits.{geometry_of};
 ghost use Rattle.pool_law.specs.Views as views;
 ghost use Rattle.seat_work.specs.Changes.{once_less, once_more};
 ghost use Rattle.seat_work.specs.Works.{HasBorn};
+ghost use Rattle.pool_member.specs.Allotting.{IsAllotted, IsTryRefused};
 ghost use Rattle.pool_member.specs.Attempts.{as_try, HasTryCause, LeavesCounted, try_told, try_turns};
 ghost use Rattle.pool_member.specs.Refusals.{call_no, is_here};
 ghost use Rattle.pool_member.specs.Threads.{HasChanged, moves_after};
@@ -50,6 +51,9 @@ impl<B: PoolName> PoolThread<B> {
         ensures refused { IfErr result (λ no.
             HasChanged (try_turns no) (try_told no) None self.old self.new) }
         ensures cause { IfErr result (HasTryCause pool.now self.old self.new) }
+        ensures allotted { IfOk result (λ b.
+            IsAllotted pool.now size b.at.root self.old self.new) }
+        ensures told { IfErr result (λ no. IsTryRefused pool.now size no self.old self.new) }
     {
         let Some(class) = pool.sizes.class_of(size) else {
             return Err(TryAllocNo::Refused(AllocNo::TooLarge));

@@ -10,6 +10,7 @@ ghost use Rattle.pool_table.specs.Counts.{with_ref};
 ghost use Rattle.shared_pool.specs.SeatViews.{HasView, view_of};
 ghost use Rattle.seat_work.specs.Changes.{no_change, once_less, once_more};
 ghost use Rattle.seat_work.specs.Works.{HasBorn};
+ghost use Rattle.pool_member.specs.Allotting.{IsAllotted, IsRefused};
 ghost use Rattle.pool_member.specs.Answers.{alloc_told, alloc_turns, as_alloc, HasCause};
 ghost use Rattle.pool_member.specs.Counting.{counted, known};
 ghost use Rattle.pool_member.specs.Refusals.{call_no, is_here, part_no};
@@ -64,6 +65,9 @@ impl<B: PoolName> PoolThread<B> {
         ensures refused { IfErr result (λ no.
             HasChanged (alloc_turns no) (alloc_told no) None self.old self.new) }
         ensures cause { IfErr result (HasCause pool.now self.old self.new) }
+        ensures allotted { IfOk result (λ b.
+            IsAllotted pool.now size b.at.root self.old self.new) }
+        ensures told { IfErr result (λ no. IsRefused pool.now size no self.old self.new) }
     {
         let Some(class) = pool.sizes.class_of(size) else {
             return Err(AllocNo::TooLarge);

@@ -6,6 +6,7 @@ ghost use Rattle.pool_law.specs.Limits.{geometry_of};
 ghost use Rattle.pool_law.specs.Views as views;
 ghost use Rattle.seat_work.specs.Changes.{once_more};
 ghost use Rattle.seat_work.specs.Works.{HasBorn};
+ghost use Rattle.pool_member.specs.Allotting.{IsAllotted, IsRefused};
 ghost use Rattle.pool_member.specs.Answers.{alloc_told, alloc_turns, HasCause};
 ghost use Rattle.pool_member.specs.Counting.{is_alone};
 ghost use Rattle.buffer_pool.specs.Lones.{bytes_of};
@@ -50,6 +51,9 @@ impl<B: PoolName> PoolThread<B> {
         ensures refused { IfErr result (λ no.
             HasChanged (alloc_turns no) (alloc_told no) None self.old self.new) }
         ensures cause { IfErr result (HasCause pool.now self.old self.new) }
+        ensures allotted { IfOk result (λ b.
+            IsAllotted pool.now size b.at.root self.old self.new) }
+        ensures told { IfErr result (λ no. IsRefused pool.now size no self.old self.new) }
     {
         match self.alloc(rt, pool, size) {
             Ok(buffer) => {
