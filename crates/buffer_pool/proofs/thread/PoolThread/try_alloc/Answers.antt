@@ -1,5 +1,6 @@
 use Rattle.std.proofs.Common.{Err, None, sym, subst}
 use Rattle.pool_law.specs.declared.id.ViewData.{ViewData}
+use Rattle.shared_pool.specs.declared.pool.SharedPool.{SharedPool}
 use Rattle.seat_work.specs.Changes.{once_more}
 use Rattle.seat_tries.specs.declared.allocation.AllocNo.{AllocNo as WorkNo}
 use Rattle.seat_tries.specs.declared.allocation.AllocNo.TheVariants as work
@@ -7,6 +8,7 @@ use Rattle.seat_tries.specs.Allocations.{allocated}
 use Rattle.pool_member.specs.declared.answers.TryAllocNo.{TryAllocNo}
 use Rattle.pool_member.specs.declared.member.Member.{Member}
 use Rattle.pool_member.specs.Attempts.{as_try, try_told, try_turns}
+use Rattle.pool_member.specs.Allotting.{IsAllotted, IsTryRefused}
 use Rattle.pool_member.specs.Threads.{HasChanged}
 use Rattle.buffer_pool.proofs.thread.PoolThread.try_alloc.Goals as goal
 use Rattle.buffer_pool.proofs.thread.PoolThread.try_alloc.Goals.{in-Ok, in-Err}
@@ -41,4 +43,30 @@ returns-clause-refused g c =
           (told_as w.in-Err.no old new
           (subst (λ (m : Member). HasChanged 6 (allocated (Err w.in-Err.no)) None m new) c.self.view_is
           w.in-Err.ensures.does.changed)))
+    ]
+
+pub returns-clause-allotted : goal.returns-clause-allotted
+returns-clause-allotted g c =
+    let pool = c.args.pool.now in let old = c.args.self.now in let new = c.try_allocate.new.member in
+    let size = c.args.size in
+    elim c.match-try_allocate.branch [
+      | in-Ok w ↦
+          rw w.result-is (subst (λ (v : ViewData). IsAllotted pool size v.root old new) (sym w.of_root.ensures)
+          (subst (λ (p : SharedPool). IsAllotted p size w.in-Ok.root old new) c.pool.view_is
+          (subst (λ (m : Member). IsAllotted c.pool.inside.shared size w.in-Ok.root m new) c.self.view_is
+          w.in-Ok.ensures.notes)))
+      | in-Err w ↦ rw w.result-is tt
+    ]
+
+pub returns-clause-told : goal.returns-clause-told
+returns-clause-told g c =
+    let pool = c.args.pool.now in let old = c.args.self.now in let new = c.try_allocate.new.member in
+    let size = c.args.size in
+    elim c.match-try_allocate.branch [
+      | in-Ok w ↦ rw w.result-is tt
+      | in-Err w ↦
+          rw w.result-is (subst (λ (n : TryAllocNo). IsTryRefused pool size n old new) (sym w.try_no.ensures)
+          (subst (λ (p : SharedPool). IsTryRefused p size (as_try w.in-Err.no) old new) c.pool.view_is
+          (subst (λ (m : Member). IsTryRefused c.pool.inside.shared size (as_try w.in-Err.no) m new) c.self.view_is
+          w.in-Err.ensures.notes)))
     ]
