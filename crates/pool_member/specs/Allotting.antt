@@ -1,28 +1,24 @@
--- What the law of lanes reads of an allocation of a thread, and of a growth.
-use Rattle.std.specs.Prelude.{◌≡◌, ℕ, Option, Some, Result, Ok, Err}
+-- What the law of lanes reads of an allocation of a thread.
+use Rattle.std.specs.Prelude.{◌≡◌, ℕ, Option, Some, Err}
 use Rattle.size_classes.specs.Sizes.{class_of}
 use Rattle.pool_law.specs.declared.id.RootId.{RootId}
 use Rattle.pool_law.specs.declared.report.Watch.{Watch}
 use Rattle.pool_law.specs.declared.run.Reply.{Reply}
 use Rattle.pool_law.specs.Limits.{geometry_of}
-use Rattle.pool_law.specs.Patterns.{allot, regrow}
+use Rattle.pool_law.specs.Patterns.{allot}
 use Rattle.pool_law.specs.Readers.{◌>>◌, give}
 use Rattle.shared_pool.specs.declared.pool.SharedPool.{SharedPool}
 use Rattle.shared_pool.specs.declared.seat.PoolSeat.{PoolSeat}
 use Rattle.shared_pool.specs.SeatLanes.{lane_of}
 use Rattle.shared_pool.specs.SeatViews.{view_of}
-use Rattle.seat_work.specs.declared.regrowth.GrowNo.{GrowNo}
 use Rattle.seat_work.specs.Answers.{Bears}
 use Rattle.seat_work.specs.Readings.{NotesAs, NotesOn}
-use Rattle.seat_work.specs.Regrowths.{reply_of}
 use Rattle.seat_tries.specs.declared.allocation.AllocNo.{AllocNo as TriesNo}
 use Rattle.seat_tries.specs.declared.allocation.AllocNo.TheVariants as tries
 use Rattle.seat_tries.specs.declared.begun.Begun.{Begun}
 use Rattle.seat_tries.specs.Leaving.{left_of}
 use Rattle.pool_member.specs.declared.answers.AllocNo.{AllocNo}
 use Rattle.pool_member.specs.declared.answers.AllocNo.TheVariants.{TooLarge, Spent, NoHandle, Full, Worn}
-use Rattle.pool_member.specs.declared.answers.CapacityNo.{CapacityNo}
-use Rattle.pool_member.specs.declared.answers.CapacityNo.TheVariants as capacity
 use Rattle.pool_member.specs.declared.answers.TryAllocNo.{TryAllocNo}
 use Rattle.pool_member.specs.declared.answers.TryAllocNo.TheVariants.{Busy, Refused}
 use Rattle.pool_member.specs.declared.member.Member.{Member}
@@ -94,23 +90,3 @@ IsTryRefused pool size Busy old new = Unit {0}
 IsTryRefused pool size (Refused Full) old new =
     FromSettled pool old (λ mid. FillsOf pool size mid new)
 IsTryRefused pool size (Refused why) old new = IsRefused pool size why old new
-
--- it noted just what the law reads as a growth of the root to so much, with this answer
-abbrev pub GrowsOf :
-    SharedPool → RootId → ℕ → Result ℕ GrowNo → PoolSeat → PoolSeat → Type 0
-GrowsOf pool root size answer old new =
-    NotesAs (regrow pool.table.layout.shape (lane_of old) root size) (reply_of answer)
-    (view_of old) (view_of new)
-
-abbrev pub IsGrown :
-    SharedPool → RootId → ℕ → Result ℕ GrowNo → Member → Member → Type 0
-IsGrown pool root size answer old new =
-    FromSettled pool old (λ mid. GrowsOf pool root size answer mid new.seat)
-
--- or its arena was full, and it noted just that behind a note of too small a capacity. Why else the
--- root did not grow is no note of a lane
-abbrev pub IsUngrown : SharedPool → RootId → ℕ → CapacityNo → Member → Member → Type 0
-IsUngrown pool root size capacity.NotHere old new = Unit {0}
-IsUngrown pool root size capacity.TooLarge old new = Unit {0}
-IsUngrown pool root size capacity.Spent old new = Unit {0}
-IsUngrown pool root size capacity.Full old new = IsGrown pool root size (Err GrowNo.Full) old new

@@ -1,11 +1,10 @@
 //! How buffers get longer.
 
-ghost use Rattle.std.specs.Prelude.{◌≡◌, ◌≤◌, IfErr, IfOk, IsTrue, MatchResult, None, Ok, OnErr, OnOk, Some};
+ghost use Rattle.std.specs.Prelude.{◌≡◌, ◌≤◌, IfErr, IfOk, IsTrue, MatchResult, None, OnErr, OnOk, Some};
 ghost use Rattle.pool_law.specs.Limits.{geometry_of};
 ghost use Rattle.pool_law.specs.Views.{reaching, LiesIn};
 ghost use Rattle.seat_work.specs.Changes.{no_change};
 ghost use Rattle.seat_work.specs.Regrowths.{IsTold};
-ghost use Rattle.pool_member.specs.Allotting.{IsGrown, IsUngrown};
 ghost use Rattle.pool_member.specs.Alone.{GrowsAlone};
 ghost use Rattle.pool_member.specs.declared.answers.CapacityNo.TheVariants.{Full};
 ghost use Rattle.pool_member.specs.Growths.{IsTriedBy, LeavesAsked};
@@ -57,9 +56,6 @@ impl<B: PoolName> PoolThread<B> {
         ensures settled { MatchResult result (λ _. IsSettled self.new)
             (λ no. no ≡ Full → IsSettled self.new) }
         ensures stays { IsSettled self.old → IsSettled self.new }
-        ensures notes { let root = buffer.old.at.root in
-            MatchResult result (λ bytes. IsGrown pool.now root size (Ok bytes) self.old self.new)
-            (λ no. IsUngrown pool.now root size no self.old self.new) }
         ensures refused { IfErr result
             (LeavesThread buffer.old.at.root self.old self.new) }
         ensures unchanged { OnErr result (buffer.new ≡ buffer.old) }

@@ -5,7 +5,6 @@ ghost use Rattle.size_classes.specs.Sizes.{class_of};
 ghost use Rattle.pool_law.specs.Limits.{geometry_of};
 ghost use Rattle.pool_law.specs.Views.{most_capacity};
 ghost use Rattle.seat_work.specs.Regrowths.{grown, IsTold};
-ghost use Rattle.pool_member.specs.Allotting.{GrowsOf, IsGrown};
 ghost use Rattle.pool_member.specs.Alone.{GrowsAlone};
 ghost use Rattle.pool_member.specs.Counting.{counted, known};
 ghost use Rattle.pool_member.specs.Growths.{asked, MayRefuseAsked};
@@ -43,7 +42,6 @@ pub fn grow<W: Wait>(
         × (capacity ≤ known member.new.account.counts root)) }
     ensures told { IfOk result (λ capacity.
         IsTold pool.now root capacity member.old.seat member.new.seat) }
-    ensures notes { IsGrown pool.now root size result member.old member.new }
 {
     settle(rt, pool, member);
     grow_settled(rt, pool, member, root, size, class)
@@ -73,7 +71,6 @@ fn grow_settled<W: Wait>(
         × (capacity ≤ known member.new.account.counts root)) }
     ensures told { IfOk result (λ capacity.
         IsTold pool.now root capacity member.old.seat member.new.seat) }
-    ensures notes { GrowsOf pool.now root size result member.old.seat member.new.seat }
 {
     member.account.turns -= 6;
     match seat_work::grow(rt, pool, &mut member.seat, root, size, class) {

@@ -7,7 +7,7 @@ use Rattle.shared_pool.specs.declared.pool.SharedPool.{SharedPool}
 use Rattle.seat_work.specs.Changes.{once_more}
 use Rattle.pool_member.specs.declared.answers.AllocNo.{AllocNo}
 use Rattle.pool_member.specs.declared.member.Member.{Member}
-use Rattle.pool_member.specs.Answers.{alloc_told, alloc_turns, as_alloc}
+use Rattle.pool_member.specs.Answers.{alloc_told, alloc_turns, as_alloc, HasCause}
 use Rattle.pool_member.specs.Allotting.{IsAllotted, IsRefused}
 use Rattle.pool_member.specs.Threads.{HasChanged}
 use Rattle.buffer_pool.proofs.thread.PoolThread.alloc.Goals as goal
@@ -68,4 +68,16 @@ returns-clause-told g c =
           (subst (λ (p : SharedPool). IsRefused p size (as_alloc w.in-Err.no) old new) c.pool.view_is
           (subst (λ (m : Member). IsRefused c.pool.inside.shared size (as_alloc w.in-Err.no) m new) c.self.view_is
           w.in-Err.ensures.notes)))
+    ]
+
+pub returns-clause-cause : goal.returns-clause-cause
+returns-clause-cause g c =
+    let pool = c.args.pool.now in let old = c.args.self.now in let new = c.allocate.new.member in
+    elim c.match-allocate.branch [
+      | in-Ok w ↦ rw w.result-is tt
+      | in-Err w ↦
+          rw w.result-is (subst (λ (n : AllocNo). HasCause pool old new n) (sym w.alloc_no.ensures)
+          (subst (λ (p : SharedPool). HasCause p old new (as_alloc w.in-Err.no)) c.pool.view_is
+          (subst (λ (m : Member). HasCause c.pool.inside.shared m new (as_alloc w.in-Err.no)) c.self.view_is
+          w.in-Err.ensures.cause)))
     ]

@@ -2,6 +2,7 @@ use Rattle.std.proofs.Common.{None, sym, ◌∙◌, subst}
 use Rattle.std.specs.Prelude.{IsTrue}
 use Rattle.seat_work.specs.Changes.{once_more}
 use Rattle.pool_member.specs.declared.member.Member.{Member}
+use Rattle.pool_member.specs.Allotting.{IsAllotted}
 use Rattle.pool_member.specs.Alone.{IsAlone}
 use Rattle.pool_member.specs.Counting.{is_alone}
 use Rattle.pool_member.specs.Refusals.{is_here}
@@ -32,3 +33,8 @@ returns-in-Ok-clause-changed g c =
     let own = c.own.ensures in
     owned_changed m c.own.new.self c.buffer.inside.view.at.root own.counts own.tells own.owns 6 change c.args.self.now
     (subst (λ (m : Member). HasChanged 6 change None c.args.self.now m) (sym c.self.view_is) c.in-Ok.ensures.changed)
+
+pub returns-in-Ok-clause-allotted : goal.returns-in-Ok-clause-allotted
+returns-in-Ok-clause-allotted g c =
+    subst (λ (m : Member). IsAllotted c.args.pool.now c.args.size c.in-Ok.buffer.at.root c.args.self.now m)
+    (sym c.self.view_is) c.in-Ok.ensures.allotted

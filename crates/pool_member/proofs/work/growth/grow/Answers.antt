@@ -4,8 +4,6 @@ use Rattle.seat_work.proofs.Later.{later_but}
 use Rattle.seat_work.proofs.Regrowing.{if_told_on}
 use Rattle.pool_member.proofs.AloneLater.{grows_on}
 use Rattle.pool_member.proofs.Settling.{keeps_settled, settled_does}
-use Rattle.pool_member.specs.Allotting.{GrowsOf}
-use Rattle.pool_member.proofs.Allotted.{from_settled}
 use Rattle.pool_member.proofs.work.growth.grow.Goals as goal
 
 pub returns-clause-does : goal.returns-clause-does
@@ -24,9 +22,3 @@ returns-clause-alone g c =
     let pool = c.args.pool.now in let old = c.args.member.now in let mid = c.settle.new.member in
     grows_on c.args.root old mid c.grow_settled.new.member (keeps_settled pool old mid c.settle.ensures.settles)
     c.grow_settled.ensures.alone
-
-pub returns-clause-notes : goal.returns-clause-notes
-returns-clause-notes g c =
-    let a = c.args in let pool = a.pool.now in let call = c.grow_settled in
-    from_settled pool (λ m. GrowsOf pool a.root a.size call.result m call.new.member.seat) a.member.now
-    c.settle.new.member c.settle.ensures.settles c.settle.ensures.settled call.ensures.notes

@@ -94,9 +94,3 @@ pub returns-in-Err-clause-alone : goal.returns-in-Err-clause-alone
 returns-in-Err-clause-alone g c =
     let old = c.args.member.now in let new : Member = record old { seat = c.grow.new.seat } in
     grows_alone c.args.pool.now c.args.root old new c.grow.ensures.later
-
-pub returns-in-Ok-clause-notes : goal.returns-in-Ok-clause-notes
-returns-in-Ok-clause-notes g c = c.in-Ok.ensures.reads
-
-pub returns-in-Err-clause-notes : goal.returns-in-Err-clause-notes
-returns-in-Err-clause-notes g c = c.in-Err.ensures.reads
