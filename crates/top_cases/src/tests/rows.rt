@@ -104,6 +104,9 @@ end roots 0 live 0 leaks 0
 // How many reads find all of that trace, and the end.
 const READS: u64 = 33 + 1;
 
+// How many writes take all of its text, which has 63 bytes.
+const WRITES: u64 = 7;
+
 impl Row {
     /// A hand-over of which a lane is stopped.
     pub fn stopped(
@@ -196,7 +199,7 @@ pub fn rows() -> [Row; 18] {
         no_write(2, ROOM, "0.0 touch "),
         no_write(NEVER, 25, "0.0 touch unbound\n1.0 tou"),
         Row {
-            no_write: 7,
+            no_write: WRITES + 1,
             ..met()
         },
     ]
