@@ -1,13 +1,18 @@
 -- Rows and lanes, one after the other.
-use Rattle.std.proofs.Common.{◌≡◌, ℕ, ◌+◌, ◌<◌, List, [], ◌∷◌, ◌++◌, refl, ap, map, sym, ◌∙◌, length, drop, get_or, arith, drop-cons, add-one}
-use Rattle.std.specs.Prelude.{Result, Ok, Err, Some, IsErrAnd}
+use Rattle.std.proofs.Common.{◌≡◌, ℕ, ◌+◌, ◌<◌, Bool, true, false, List, [], ◌∷◌, ◌++◌, refl, ap, map, sym, ◌∙◌, subst, length, length-append, drop, get_or, arith, drop-cons, add-one}
+use Rattle.std.specs.Prelude.{All, Option, Result, Ok, Err, Some, None, IsErrAnd, if◌then◌else◌}
 use Rattle.std.proofs.lemmas.List.{length-map, get_or-map}
+use Rattle.std.proofs.lemmas.List.Elements.{All-get_or}
 use Rattle.serde_json.specs.declared.value.Value.{Value}
+use Rattle.serde_json.specs.Data.{Data}
 use Rattle.serde_json.specs.View.{view}
 use Rattle.pool_law.specs.declared.command.Command.{Command}
 use Rattle.trace_text.specs.declared.TraceNo.{TraceNo}
 use Rattle.trace_text.specs.declared.TraceNo.TheVariants as refusals
-use Rattle.trace_text.specs.Lane.{LaneRead, commands_after, lane_in, with_row}
+use Rattle.trace_text.specs.Items.{◌>>=◌, only_if}
+use Rattle.trace_text.specs.Names.{Mentions}
+use Rattle.trace_text.specs.Words.{command_in}
+use Rattle.trace_text.specs.Lane.{HasFewRows, LaneRead, commands_after, lane_in, may_follow, with_command, with_row}
 use Rattle.trace_text.specs.Reading.{GivesAs, GivesLanes, Reading, lanes_after}
 use Rattle.trace_text.specs.Steps.{TakesLane, TakesRow}
 
@@ -74,6 +79,46 @@ lane_refused (refusals.Stuck l n) lanes front new i values value all h is before
     rw (before, rest_at values i value h is, refused) refl
 lane_refused refusals.Options lanes front new i values value all h is before refused =
     rw (before, rest_at values i value h is, refused) refl
+
+-- ---- How many there are.
+
+-- a lane of few rows
+pub few_at : (values : List Value) (i : ℕ) (value : Value) → All HasFewRows (map view values) → i < length values
+    → value ≡ get_or values i value → HasFewRows (view value)
+few_at values i value all below is =
+    let here : get_or (map view values) i (view value) ≡ view value =
+    get_or-map view values i value (view value) below ∙ ap view (sym is) in
+    subst HasFewRows here
+    (All-get_or HasFewRows (map view values) i (view value) (omega (arith, below, length-map values view)) all)
+
+pub one_more : {A : Type 0} (old new : List A) (a : A) (n : ℕ) → new ≡ old ++ a ∷ [] → length old ≡ n
+    → length new ≡ n + 1
+one_more old new a n is count =
+    let long = length-append old (a ∷ []) in
+    let same = ap (λ xs. length xs) is in
+    omega (arith, long, same, count)
+
+-- a row that is a command is one more
+pub row_counted : (lanes : ℕ) (old new : LaneRead) (d : Data) (n : ℕ) → with_row lanes old d ≡ Some new
+    → length old.commands ≡ n → length new.commands ≡ n + 1
+unfolding with_row
+row_counted lanes old new d n is count =
+    elim (command_in lanes old.names d) as (λ (o : Option (Command × Mentions)).
+    (o >>= (λ next. only_if (may_follow old.commands) next.0 >>= (λ command. Some (with_command old next.1 command))))
+    ≡ Some new → length new.commands ≡ n + 1) [
+      | None ↦ λ e. cc
+      | Some next ↦ λ e. followed next (may_follow old.commands next.0) e
+    ] is
+  where
+    followed : (next : Command × Mentions) (may : Bool)
+        → ((if may then Some next.0 else None) >>= (λ command. Some (with_command old next.1 command))) ≡ Some new
+        → length new.commands ≡ n + 1
+    followed next true e =
+        let same : with_command old next.1 next.0 ≡ new = cc in
+        let long = length-append old.commands (next.0 ∷ []) in
+        let there = ap (λ (r : LaneRead). length r.commands) same in
+        omega (arith, long, there, count)
+    followed next false e = cc
 
 -- ---- Refusals.
 

@@ -12,3 +12,6 @@ pub mod LaneCounts
 pub mod Keys
 pub mod OptionSteps
 pub mod OptionFits
+pub mod TextWeights
+pub mod DataWeights
+pub mod ShortReads

@@ -1,5 +1,5 @@
 -- A lane: its rows, read one after the other.
-use Rattle.std.specs.Prelude.{ℕ, Bool, true, not, List, [], ◌∷◌, ◌++◌, length, Option, Some, Result, Ok, Err}
+use Rattle.std.specs.Prelude.{ℕ, ◌^◌, ◌<◌, Bool, true, not, List, [], ◌∷◌, ◌++◌, length, Option, Some, IfSome, Result, Ok, Err}
 use Rattle.std.specs.List.{list_all}
 use Rattle.std.specs.Option.{option_map_or}
 use Rattle.serde_json.specs.Data.{Data}
@@ -46,6 +46,10 @@ commands_after lanes lane read [] = Ok read.commands
 commands_after lanes lane read (d ∷ ds) =
     option_map_or (λ next. commands_after lanes lane next ds) (with_row lanes read d)
     (Err (Shape lane (length read.commands)))
+
+-- a lane of fewer rows than a number of 32 bits counts
+abbrev pub HasFewRows : Data → Type 0
+HasFewRows d = IfSome (array_in d) (λ rows. length rows < 2 ^ 32)
 
 -- the commands of a lane among so many; what is no array is at fault at its line 0
 unfoldable pub lane_in : ℕ → ℕ → Data → Result (List Command) TraceNo

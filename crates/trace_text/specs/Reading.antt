@@ -1,5 +1,5 @@
 -- What a text is read as: the commands of each lane, or the first reason why there are none.
-use Rattle.std.specs.Prelude.{◌≡◌, ℕ, nat_lt, if◌then◌else◌, List, [], ◌∷◌, ◌++◌, length, Result, Ok, Err}
+use Rattle.std.specs.Prelude.{◌≡◌, ℕ, ◌^◌, ◌<◌, nat_lt, if◌then◌else◌, List, [], ◌∷◌, ◌++◌, length, All, IfSome, Result, Ok, Err}
 use Rattle.std.specs.Option.{option_map_or, ok_or}
 use Rattle.std.specs.Str.{is_utf8}
 use Rattle.serde_json.specs.Data.{Data}
@@ -10,7 +10,7 @@ use Rattle.pool_law.specs.declared.run.Options.{Options}
 use Rattle.pool_law.specs.Stuck.{command_count, stuck_at}
 use Rattle.pool_law.specs.Traces.{byte_limit, bytes_asked, command_limit, lane_limit}
 use Rattle.trace_text.specs.Items.{array_in}
-use Rattle.trace_text.specs.Lane.{lane_in}
+use Rattle.trace_text.specs.Lane.{HasFewRows, lane_in}
 use Rattle.trace_text.specs.Options.{parts_of}
 use Rattle.trace_text.specs.declared.Read.{Read}
 use Rattle.trace_text.specs.declared.Limit.TheVariants.{Text, Lanes, Commands, Bytes}
@@ -52,6 +52,10 @@ abbrev pub lanes_after : ℕ → List (List Command) → List Data → Reading
 lanes_after lanes front [] = Ok front
 lanes_after lanes front (d ∷ ds) =
     lane_in lanes (length front) d >>= (λ lane. lanes_after lanes (front ++ lane ∷ []) ds)
+
+-- fewer lanes than a number of 32 bits counts, and as few rows in each
+abbrev pub IsShort : Data → Type 0
+IsShort d = IfSome (array_in d) (λ lanes. (length lanes < 2 ^ 32) × All HasFewRows lanes)
 
 -- at least one lane
 abbrev pub lanes_in : List Data → Reading

@@ -1,8 +1,8 @@
 //! A lane: its rows, read one after the other.
-ghost use Rattle.std.specs.Prelude.{◌≡◌, ◌∷◌, ◌++◌, [], OnOk, map};
+ghost use Rattle.std.specs.Prelude.{◌≡◌, ◌<◌, ◌^◌, ◌∷◌, ◌++◌, [], OnOk, length, map};
 ghost use Rattle.serde_json.specs.View.{view};
 ghost use Rattle.pool_law.specs.Legal.{new_name};
-ghost use Rattle.trace_text.specs.Lane.{commands_after, lane_in, may_follow, nothing_read, with_row};
+ghost use Rattle.trace_text.specs.Lane.{HasFewRows, commands_after, lane_in, may_follow, nothing_read, with_row};
 ghost use Rattle.trace_text.specs.Reading.{GivesAs};
 ghost use Rattle.trace_text.specs.Steps.{IsTaken, TakesRow};
 
@@ -58,11 +58,10 @@ impl LaneReader {
         lane: u32,
         row: &Value,
     ) -> Result<(), TraceNo>
+        requires { length self.old.commands < 2 ^ 32 }
         ensures { TakesRow result lane self.old self.new (with_row lanes self.old (view row.now)) }
     {
-        let Ok(line) = u32::try_from(self.commands.len()) else {
-            return Err(TraceNo::Memory);
-        };
+        let line = self.commands.len() as u32;
         match self.take_row(alloc, lanes, row) {
             Ok(()) => Ok(()),
             Err(RowNo::Form) => Err(TraceNo::Shape { lane, line }),
@@ -115,6 +114,7 @@ pub fn lane_of(
     lane: u32,
     value: &Value,
 ) -> Result<CommandList, TraceNo>
+    requires { HasFewRows (view value.now) }
     ensures { GivesAs (λ commands. commands) result (lane_in lanes lane (view value.now)) }
 {
     match array_of(value) {
@@ -129,6 +129,7 @@ fn commands_of(
     lane: u32,
     rows: &[Value],
 ) -> Result<CommandList, TraceNo>
+    requires { length rows.now < 2 ^ 32 }
     ensures { GivesAs (λ commands. commands) result
         (commands_after lanes lane nothing_read (map view rows.now)) }
 {

@@ -1,12 +1,12 @@
 //! From a text to a trace.
-ghost use Rattle.std.specs.Prelude.{◌≡◌, ◌≤◌, [], IfOk, length, map};
+ghost use Rattle.std.specs.Prelude.{◌≡◌, ◌<◌, ◌≤◌, ◌^◌, [], All, IfOk, length, map};
 ghost use Rattle.serde_json.specs.View.{view};
 ghost use Rattle.pool_law.specs.Stuck.{command_count};
-ghost use Rattle.trace_text.specs.Lane.{lane_in};
+ghost use Rattle.trace_text.specs.Lane.{HasFewRows, lane_in};
 ghost use Rattle.trace_text.specs.Steps.{TakesLane};
 ghost use Rattle.pool_law.specs.Traces.{AreLanes, command_limit, lane_limit};
 ghost use Rattle.trace_text.specs.Options.{AreOptions};
-ghost use Rattle.trace_text.specs.Reading.{Gives, GivesAs, GivesLanes, accepted, lanes_after, reading_of, trace_in, unstuck, value_of};
+ghost use Rattle.trace_text.specs.Reading.{Gives, GivesAs, GivesLanes, IsShort, accepted, lanes_after, reading_of, trace_in, unstuck, value_of};
 
 use crate::items::array_of;
 use crate::lane::lane_of;
@@ -44,6 +44,7 @@ pub fn read_trace(alloc: Global, text: &[u8]) -> Result<Read, TraceNo>
 /// The trace of the lanes, where it passes no limit and no lane gets stuck.
 #[tactic(auto, unfolding(crate::specs::Reading::accepted))]
 fn accepted(alloc: Global, lanes: &Value) -> Result<Trace, TraceNo>
+    requires { IsShort (view lanes.now) }
     ensures { GivesLanes result (accepted (view lanes.now)) }
 {
     let trace = trace_from(alloc, lanes)?;
@@ -81,9 +82,10 @@ pub fn value_from(alloc: Global, text: &[u8]) -> Result<Value, TraceNo>
     }
 }
 
-/// The trace of a JSON value, of any number of lanes and commands.
+/// The trace of a JSON value, whatever the limits are.
 #[tactic(auto, unfolding(crate::specs::Reading::trace_in))]
 fn trace_from(alloc: Global, value: &Value) -> Result<Trace, TraceNo>
+    requires { IsShort (view value.now) }
     ensures { GivesLanes result (trace_in (view value.now)) }
 {
     match array_of(value) {
@@ -93,6 +95,8 @@ fn trace_from(alloc: Global, value: &Value) -> Result<Trace, TraceNo>
 }
 
 fn lanes_from(alloc: Global, values: &[Value]) -> Result<Trace, TraceNo>
+    requires lanes { length values.now < 2 ^ 32 }
+    requires rows { All HasFewRows (map view values.now) }
     ensures { GivesLanes result (lanes_after (length values.now) [] (map view values.now)) }
 {
     let mut lanes = Vec::new(alloc);
@@ -110,13 +114,12 @@ fn push_lane(
     lanes: &mut Vec<CommandList>,
     value: &Value,
 ) -> Result<(), TraceNo>
+    requires number { length lanes.old.items < 2 ^ 32 }
+    requires rows { HasFewRows (view value.now) }
     ensures { TakesLane result lanes.old.items lanes.new.items
         (lane_in count (length lanes.old.items) (view value.now)) }
 {
-    let Ok(number) = u32::try_from(lanes.len()) else {
-        return Err(TraceNo::Memory);
-    };
-    let lane = lane_of(alloc, count, number, value)?;
+    let lane = lane_of(alloc, count, lanes.len() as u32, value)?;
     match lanes.push(lane) {
         Ok(()) => Ok(()),
         Err(_) => Err(TraceNo::Memory),
