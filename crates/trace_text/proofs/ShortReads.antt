@@ -36,7 +36,7 @@ each Items.no_items k e below = absurd (omega (arith, below))
 each (Items.item d ds) zero e below = omega arith
 each (Items.item d ds) (suc k) e below = let le = each ds k e (omega (arith, below)) in omega (arith, le)
 
-few_rows : (d : Data) → size d < 2 ^ 32 → HasFewRows d
+few_rows : (d : Data) → size d < 2 ^ 25 → HasFewRows d
 few_rows Data.null few = tt
 few_rows (Data.boolean b) few = tt
 few_rows (Data.number n) few = tt
@@ -44,7 +44,7 @@ few_rows (Data.string s) few = tt
 few_rows (Data.array ds) few = let le = many ds in omega (arith, le, few)
 few_rows (Data.object ms) few = tt
 
-is_short : (d : Data) → size d < 2 ^ 32 → IsShort d
+is_short : (d : Data) → size d < 2 ^ 25 → IsShort d
 is_short Data.null few = tt
 is_short (Data.boolean b) few = tt
 is_short (Data.number n) few = tt

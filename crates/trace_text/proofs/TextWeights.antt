@@ -162,8 +162,8 @@ punctuated Place.after_value [] = omega arith
 punctuated Place.after_comma [] = omega arith
 punctuated Place.after_key [] = omega arith
 punctuated Place.fresh (Lexeme.token t ∷ ls) =
-    let l = placed Place.fresh t (begins_colon ls) (λ next. punctuate next ls) (suc (length ls)) (λ q. punctuated q ls) in
-    omega (arith, l)
+    let l = placed Place.fresh t (begins_colon ls) (λ next. punctuate next ls) (suc (length ls))
+    (λ q. punctuated q ls) in omega (arith, l)
 punctuated Place.after_value (Lexeme.token t ∷ ls) =
     let l = placed Place.after_value t (begins_colon ls) (λ next. punctuate next ls) (suc (length ls))
     (λ q. punctuated q ls) in omega (arith, l)

@@ -47,9 +47,9 @@ commands_after lanes lane read (d ∷ ds) =
     option_map_or (λ next. commands_after lanes lane next ds) (with_row lanes read d)
     (Err (Shape lane (length read.commands)))
 
--- a lane of fewer rows than a number of 32 bits counts
+-- a lane of so few rows that its lines and its names have numbers of 32 bits
 abbrev pub HasFewRows : Data → Type 0
-HasFewRows d = IfSome (array_in d) (λ rows. length rows < 2 ^ 32)
+HasFewRows d = IfSome (array_in d) (λ rows. length rows < 2 ^ 25)
 
 -- the commands of a lane among so many; what is no array is at fault at its line 0
 unfoldable pub lane_in : ℕ → ℕ → Data → Result (List Command) TraceNo

@@ -53,7 +53,7 @@ lanes_after lanes front [] = Ok front
 lanes_after lanes front (d ∷ ds) =
     lane_in lanes (length front) d >>= (λ lane. lanes_after lanes (front ++ lane ∷ []) ds)
 
--- fewer lanes than a number of 32 bits counts, and as few rows in each
+-- so few lanes that they have numbers of 32 bits, and few rows in each
 abbrev pub IsShort : Data → Type 0
 IsShort d = IfSome (array_in d) (λ lanes. (length lanes < 2 ^ 32) × All HasFewRows lanes)
 

@@ -1,5 +1,5 @@
 //! The forms of commands, each from the items of its row.
-ghost use Rattle.std.specs.Prelude.{◌≡◌, map};
+ghost use Rattle.std.specs.Prelude.{◌≡◌, ◌+◌, ◌≤◌, ◌^◌, OnOk, length, map};
 ghost use Rattle.serde_json.specs.View.{view};
 ghost use Rattle.trace_text.specs.Forms.{compose_of, get_of, name_and_lane_in, name_and_number_in, numbers_in, one_name_in, set_of, slice_of, two_names_in, write_of};
 ghost use Rattle.trace_text.specs.Steps.{IsRead};
@@ -15,7 +15,9 @@ pub const VIEW_LIMIT: usize = 24;
 
 #[tactic(auto, using(crate::proofs::Values::item_view), unfolding(crate::specs::Forms::set_of))]
 pub fn set(alloc: Global, tries: bool, names: &mut Names, items: &[Value]) -> Result<Command, RowNo>
-    ensures { IsRead result names.new (set_of tries names.old (map view items.now)) }
+    requires few { length names.old ≤ 2 ^ 31 }
+    ensures read { IsRead result names.new (set_of tries names.old (map view items.now)) }
+    ensures grown { OnOk result (length names.new ≤ length names.old + 25) }
 {
     let [_, name, at, bytes] = items else {
         return Err(RowNo::Form);
@@ -34,7 +36,9 @@ pub fn set(alloc: Global, tries: bool, names: &mut Names, items: &[Value]) -> Re
 
 #[tactic(auto, using(crate::proofs::Values::item_view), unfolding(crate::specs::Forms::get_of))]
 pub fn get(alloc: Global, tries: bool, names: &mut Names, items: &[Value]) -> Result<Command, RowNo>
-    ensures { IsRead result names.new (get_of tries names.old (map view items.now)) }
+    requires few { length names.old ≤ 2 ^ 31 }
+    ensures read { IsRead result names.new (get_of tries names.old (map view items.now)) }
+    ensures grown { OnOk result (length names.new ≤ length names.old + 25) }
 {
     let [_, name, at, len] = items else {
         return Err(RowNo::Form);
@@ -53,7 +57,9 @@ pub fn get(alloc: Global, tries: bool, names: &mut Names, items: &[Value]) -> Re
 
 #[tactic(auto, using(crate::proofs::Values::item_view), unfolding(crate::specs::Forms::write_of))]
 pub fn write(alloc: Global, names: &mut Names, items: &[Value]) -> Result<Command, RowNo>
-    ensures { IsRead result names.new (write_of names.old (map view items.now)) }
+    requires few { length names.old ≤ 2 ^ 31 }
+    ensures read { IsRead result names.new (write_of names.old (map view items.now)) }
+    ensures grown { OnOk result (length names.new ≤ length names.old + 25) }
 {
     let [_, name, bytes] = items else {
         return Err(RowNo::Form);
@@ -71,7 +77,9 @@ pub fn slice(
     names: &mut Names,
     items: &[Value],
 ) -> Result<Command, RowNo>
-    ensures { IsRead result names.new (slice_of retained names.old (map view items.now)) }
+    requires few { length names.old ≤ 2 ^ 31 }
+    ensures read { IsRead result names.new (slice_of retained names.old (map view items.now)) }
+    ensures grown { OnOk result (length names.new ≤ length names.old + 25) }
 {
     let [_, fresh, name, at, len] = items else {
         return Err(RowNo::Form);
@@ -93,7 +101,9 @@ pub fn slice(
 
 #[tactic(auto, using(crate::proofs::Values::item_view), unfolding(crate::specs::Forms::compose_of))]
 pub fn compose(alloc: Global, names: &mut Names, items: &[Value]) -> Result<Command, RowNo>
-    ensures { IsRead result names.new (compose_of names.old (map view items.now)) }
+    requires few { length names.old ≤ 2 ^ 31 }
+    ensures read { IsRead result names.new (compose_of names.old (map view items.now)) }
+    ensures grown { OnOk result (length names.new ≤ length names.old + 25) }
 {
     let [_, fresh, views @ ..] = items else {
         return Err(RowNo::Form);
@@ -109,7 +119,10 @@ pub fn compose(alloc: Global, names: &mut Names, items: &[Value]) -> Result<Comm
 
 /// Names, one after the other.
 fn numbers(alloc: Global, names: &mut Names, items: &[Value]) -> Result<NameList, RowNo>
-    ensures { IsRead result names.new (numbers_in names.old (map view items.now)) }
+    requires few { length names.old ≤ 2 ^ 31 + 1 }
+    requires short { length items.now ≤ 24 }
+    ensures read { IsRead result names.new (numbers_in names.old (map view items.now)) }
+    ensures grown { OnOk result (length names.new ≤ length names.old + length items.now) }
 {
     let mut numbers = Vec::new(alloc);
     for item in items {
@@ -123,7 +136,9 @@ fn numbers(alloc: Global, names: &mut Names, items: &[Value]) -> Result<NameList
 /// A name.
 #[tactic(auto, using(crate::proofs::Values::item_view), unfolding(crate::specs::Forms::one_name_in))]
 pub fn one_name(alloc: Global, names: &mut Names, items: &[Value]) -> Result<u32, RowNo>
-    ensures { IsRead result names.new (one_name_in names.old (map view items.now)) }
+    requires few { length names.old ≤ 2 ^ 31 }
+    ensures read { IsRead result names.new (one_name_in names.old (map view items.now)) }
+    ensures grown { OnOk result (length names.new ≤ length names.old + 25) }
 {
     let [_, name] = items else {
         return Err(RowNo::Form);
@@ -135,7 +150,9 @@ pub fn one_name(alloc: Global, names: &mut Names, items: &[Value]) -> Result<u32
 /// Two names.
 #[tactic(auto, using(crate::proofs::Values::item_view), unfolding(crate::specs::Forms::two_names_in))]
 pub fn two_names(alloc: Global, names: &mut Names, items: &[Value]) -> Result<(u32, u32), RowNo>
-    ensures { IsRead result names.new (two_names_in names.old (map view items.now)) }
+    requires few { length names.old ≤ 2 ^ 31 }
+    ensures read { IsRead result names.new (two_names_in names.old (map view items.now)) }
+    ensures grown { OnOk result (length names.new ≤ length names.old + 25) }
 {
     let [_, first, second] = items else {
         return Err(RowNo::Form);
@@ -154,7 +171,9 @@ pub fn name_and_number(
     names: &mut Names,
     items: &[Value],
 ) -> Result<(u32, u32), RowNo>
-    ensures { IsRead result names.new (name_and_number_in names.old (map view items.now)) }
+    requires few { length names.old ≤ 2 ^ 31 }
+    ensures read { IsRead result names.new (name_and_number_in names.old (map view items.now)) }
+    ensures grown { OnOk result (length names.new ≤ length names.old + 25) }
 {
     let [_, name, number] = items else {
         return Err(RowNo::Form);
@@ -173,7 +192,9 @@ pub fn name_and_lane(
     names: &mut Names,
     items: &[Value],
 ) -> Result<(u32, u32), RowNo>
-    ensures { IsRead result names.new (name_and_lane_in lanes names.old (map view items.now)) }
+    requires few { length names.old ≤ 2 ^ 31 }
+    ensures read { IsRead result names.new (name_and_lane_in lanes names.old (map view items.now)) }
+    ensures grown { OnOk result (length names.new ≤ length names.old + 25) }
 {
     let [_, name, lane] = items else {
         return Err(RowNo::Form);

@@ -1,5 +1,5 @@
 //! A lane: its rows, read one after the other.
-ghost use Rattle.std.specs.Prelude.{◌≡◌, ◌<◌, ◌^◌, ◌∷◌, ◌++◌, [], OnOk, length, map};
+ghost use Rattle.std.specs.Prelude.{◌≡◌, ◌+◌, ◌<◌, ◌≤◌, ◌^◌, ◌∷◌, ◌++◌, [], OnOk, length, map};
 ghost use Rattle.serde_json.specs.View.{view};
 ghost use Rattle.pool_law.specs.Legal.{new_name};
 ghost use Rattle.trace_text.specs.Lane.{HasFewRows, commands_after, lane_in, may_follow, nothing_read, with_row};
@@ -58,8 +58,11 @@ impl LaneReader {
         lane: u32,
         row: &Value,
     ) -> Result<(), TraceNo>
-        requires { length self.old.commands < 2 ^ 32 }
-        ensures { TakesRow result lane self.old self.new (with_row lanes self.old (view row.now)) }
+        requires lines { length self.old.commands < 2 ^ 32 }
+        requires names { length self.old.names ≤ 2 ^ 31 }
+        ensures row { TakesRow result lane self.old self.new
+            (with_row lanes self.old (view row.now)) }
+        ensures grown { OnOk result (length self.new.names ≤ length self.old.names + 25) }
     {
         let line = self.commands.len() as u32;
         match self.take_row(alloc, lanes, row) {
@@ -71,7 +74,9 @@ impl LaneReader {
 
     #[tactic(auto, unfolding(crate::specs::Lane::with_row))]
     fn take_row(&mut self, alloc: Global, lanes: usize, row: &Value) -> Result<(), RowNo>
-        ensures { IsTaken result self.new (with_row lanes self.old (view row.now)) }
+        requires names { length self.old.names ≤ 2 ^ 31 }
+        ensures taken { IsTaken result self.new (with_row lanes self.old (view row.now)) }
+        ensures grown { OnOk result (length self.new.names ≤ length self.old.names + 25) }
     {
         let command = command(alloc, lanes, &mut self.names, row)?;
         if !self.accepts(&command) {
@@ -129,7 +134,7 @@ fn commands_of(
     lane: u32,
     rows: &[Value],
 ) -> Result<CommandList, TraceNo>
-    requires { length rows.now < 2 ^ 32 }
+    requires { length rows.now < 2 ^ 25 }
     ensures { GivesAs (λ commands. commands) result
         (commands_after lanes lane nothing_read (map view rows.now)) }
 {

@@ -1,5 +1,5 @@
 //! The names of a lane, numbered in order of first mention.
-ghost use Rattle.std.specs.Prelude.{◌≡◌, [], ◌∷◌, ◌++◌, None, position, length, IfOk, OnOk};
+ghost use Rattle.std.specs.Prelude.{◌≡◌, ◌+◌, ◌<◌, ◌≤◌, ◌^◌, [], ◌∷◌, ◌++◌, None, position, length, IfOk, OnOk};
 ghost use Rattle.std.specs.Str.{bytes_eq};
 ghost use Rattle.trace_text.specs.Names.{number_of, with_name};
 
@@ -40,8 +40,10 @@ impl Names {
     /// The name's number. A new name gets the next one and is kept.
     #[tactic(auto, unfolding(crate::specs::Names::number_of, crate::specs::Names::with_name))]
     pub fn number(&mut self, alloc: Global, name: &str) -> Result<u32, AllocError>
+        requires { length self.old < 2 ^ 32 }
         ensures number { IfOk result (λ n. n ≡ number_of self.old name.now) }
         ensures names { OnOk result (self.new ≡ with_name self.old name.now) }
+        ensures few { OnOk result (length self.new ≤ length self.old + 1) }
     {
         match self.known(name) {
             Some(known) => Ok(known),
@@ -60,11 +62,12 @@ impl Names {
 
     /// Keeps a name that isn't known as the last.
     fn push(&mut self, alloc: Global, name: &str) -> Result<u32, AllocError>
-        requires { position (bytes_eq name.now) self.old ≡ None }
+        requires fresh { position (bytes_eq name.now) self.old ≡ None }
+        requires few { length self.old < 2 ^ 32 }
         ensures number { IfOk result (λ n. n ≡ length self.old) }
         ensures names { OnOk result (self.new ≡ self.old ++ name.now ∷ []) }
     {
-        let number = u32::try_from(self.texts.len()).map_err(|_| AllocError)?;
+        let number = self.texts.len() as u32;
         let text = String::from_str(alloc, name)?;
         let key = String::from_str(alloc, name)?;
         self.texts.push(text)?;

@@ -1,5 +1,5 @@
 //! The commands by their words.
-ghost use Rattle.std.specs.Prelude.{◌≡◌, find, map};
+ghost use Rattle.std.specs.Prelude.{◌≡◌, ◌+◌, ◌≤◌, ◌^◌, OnOk, find, length, map};
 ghost use Rattle.std.specs.Str.{bytes_eq};
 ghost use Rattle.serde_json.specs.View.{view};
 ghost use Rattle.trace_text.specs.Words.{command_in, form_of, text_of, word_of};
@@ -115,7 +115,9 @@ fn form(
     names: &mut Names,
     items: &[Value],
 ) -> Result<Command, RowNo>
-    ensures { IsRead result names.new (form_of word lanes names.old (map view items.now)) }
+    requires few { length names.old ≤ 2 ^ 31 }
+    ensures read { IsRead result names.new (form_of word lanes names.old (map view items.now)) }
+    ensures grown { OnOk result (length names.new ≤ length names.old + 25) }
 {
     match word {
         Word::Alloc => {
@@ -185,7 +187,9 @@ pub fn command(
     names: &mut Names,
     row: &Value,
 ) -> Result<Command, RowNo>
-    ensures { IsRead result names.new (command_in lanes names.old (view row.now)) }
+    requires few { length names.old ≤ 2 ^ 31 }
+    ensures read { IsRead result names.new (command_in lanes names.old (view row.now)) }
+    ensures grown { OnOk result (length names.new ≤ length names.old + 25) }
 {
     let items = array_of(row).ok_or(RowNo::Form)?;
     let text = items.first().and_then(Value::as_str).ok_or(RowNo::Form)?;
