@@ -1,4 +1,4 @@
-use Rattle.std.proofs.Common.{rules, ◌<◌, ◌≤◌, ◌^◌, length, slice_index, arith}
+use Rattle.std.proofs.Common.{rules}
 use Rattle.trace_text.proofs.StuckSteps.{short_lane}
 use Rattle.trace_text.proofs.stuck.first_place.Goals as goal
 
