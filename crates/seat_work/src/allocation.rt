@@ -101,9 +101,39 @@ fn allocate_at<W: Wait>(
     }
 }
 
-// The same, with a region of the lane's arena.
-#[inline(never)]
+// The same, with a region of the lane's arena. Here the copy of the handle is made that goes to the
+// call, and not at the head of each allocation.
+#[inline(always)]
 fn allocate_taken<W: Wait>(
+    rt: &W,
+    pool: &SharedPool,
+    seat: &mut PoolSeat,
+    handle: Handle,
+    size: u32,
+    class: u32,
+    watch: &Option<Watch>,
+) -> Result<RootId, AllocNo>
+    requires works { Works pool.now (with_place handle.place) 4 0 seat.old }
+    requires handle { IsHandle pool.now handle }
+    requires own { handle.lane ≡ lane_of seat.old }
+    requires class { class_of (geometry_of pool.now.table.layout.shape) size ≡ Some class }
+    ensures proceeds { Proceeds pool.now empty_hand 4 0 (allocated result) seat.old seat.new }
+    ensures root { IfOk result (λ root. (root.capacity ≡ size) × HasCount root (view_of seat.new)) }
+    ensures place { let shape = pool.now.table.layout.shape in
+        IfOk result (λ root. root.place < shape.lanes * shape.handles) }
+    ensures born { IfOk result (λ root. HasBorn pool.now root seat.old seat.new) }
+    ensures later { IsLater pool.now seat.old seat.new }
+    ensures worn { IfErr result (IsWornAt pool.now handle.place seat.old seat.new) }
+    ensures allots { let shape = pool.now.table.layout.shape in let lane = lane_of seat.old in
+        Allots (with_arena shape lane class size handle.place) class watch.now result
+        (view_of seat.old) (view_of seat.new) }
+{
+    allocate_apart(rt, pool, seat, handle, size, class, watch)
+}
+
+// The same: seldom, so apart.
+#[inline(never)]
+fn allocate_apart<W: Wait>(
     rt: &W,
     pool: &SharedPool,
     seat: &mut PoolSeat,
@@ -192,9 +222,27 @@ fn pop_handle<W: Wait>(rt: &W, pool: &SharedPool, seat: &mut PoolSeat) -> Option
     }
 }
 
-// The same, as often as another seat is in the way.
-#[inline(never)]
+// The same, as often as another seat is in the way. Here the room for the answer is made, and not at
+// the head of each allocation.
+#[inline(always)]
 fn wait_for_handle<W: Wait>(rt: &W, pool: &SharedPool, seat: &mut PoolSeat) -> Option<Handle>
+    requires { Works pool.now empty_hand 1 0 seat.old }
+    ensures proceeds { Proceeds pool.now (hand_got result) 1 0 (handle_told result)
+        seat.old seat.new }
+    ensures handle { IfSome result (IsHandle pool.now) }
+    ensures later { IsLater pool.now seat.old seat.new }
+    ensures took { IfSome result (λ h. TookHandle pool.now h.place seat.old seat.new) }
+    ensures own { IfSome result (λ h. h.lane ≡ lane_of seat.old) }
+    ensures reads { let shape = pool.now.table.layout.shape in let lane = lane_of seat.old in
+        (size : ℕ) → NotesOn (allot shape lane size) (with_got shape lane size result)
+        (view_of seat.old) (view_of seat.new) }
+{
+    pop_handle_apart(rt, pool, seat)
+}
+
+// The same: seldom, so apart.
+#[inline(never)]
+fn pop_handle_apart<W: Wait>(rt: &W, pool: &SharedPool, seat: &mut PoolSeat) -> Option<Handle>
     requires { Works pool.now empty_hand 1 0 seat.old }
     ensures proceeds { Proceeds pool.now (hand_got result) 1 0 (handle_told result)
         seat.old seat.new }

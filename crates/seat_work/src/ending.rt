@@ -64,9 +64,28 @@ fn put_away<W: Wait>(rt: &W, pool: &SharedPool, seat: &mut PoolSeat, handle: Han
     put_handle(rt, pool, seat, handle);
 }
 
-// The same, where a root that was to be born is not: seldom, so apart.
-#[inline(never)]
+// The same, where a root that was to be born is not. Here the copies of both are made that go to the
+// call, and not at the head of each allocation.
+#[inline(always)]
 pub(crate) fn return_both<W: Wait>(
+    rt: &W,
+    pool: &SharedPool,
+    seat: &mut PoolSeat,
+    handle: Handle,
+    region: Region,
+)
+    requires works { Works pool.now (with_both handle.place region.id) 3 0 seat.old }
+    requires handle { IsHandle pool.now handle }
+    requires region { IsRegion pool.now seat.old region }
+    ensures proceeds { Proceeds pool.now empty_hand 3 0 no_change seat.old seat.new }
+    ensures later { IsLater pool.now seat.old seat.new }
+{
+    return_apart(rt, pool, seat, handle, region);
+}
+
+// The same: seldom, so apart.
+#[inline(never)]
+fn return_apart<W: Wait>(
     rt: &W,
     pool: &SharedPool,
     seat: &mut PoolSeat,

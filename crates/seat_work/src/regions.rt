@@ -125,9 +125,30 @@ fn put_region(
     }
 }
 
-// The region goes back to its arena.
-#[inline(never)]
+// The region goes back to its arena. Here the copy of it is made that goes to the call, and not at
+// the head of each release.
+#[inline(always)]
 fn give_region<W: Wait>(
+    rt: &W,
+    pool: &SharedPool,
+    seat: &mut PoolSeat,
+    beside: Option<&Handle>,
+    own: Region,
+)
+    requires works { let place = option_map (λ h. h.now.place) beside in
+        Works pool.now (hand_with place (Some own)) 1 0 seat.old }
+    requires region { IsRegion pool.now seat.old own }
+    ensures proceeds { let place = option_map (λ h. h.now.place) beside.entry in
+        Proceeds pool.now (hand_with place None) 1 0 no_change seat.old seat.new }
+    ensures later { IsLater pool.now seat.old seat.new }
+    ensures reads { NotesAs (give_back own.id) tt (view_of seat.old) (view_of seat.new) }
+{
+    give_apart(rt, pool, seat, beside, own);
+}
+
+// The same: seldom, so apart.
+#[inline(never)]
+fn give_apart<W: Wait>(
     rt: &W,
     pool: &SharedPool,
     seat: &mut PoolSeat,

@@ -14,7 +14,7 @@ use Rattle.pool_table.specs.declared.views.SeatView.{SeatView}
 use Rattle.shared_pool.specs.SeatViews.{view_of}
 use Rattle.seat_work.specs.Readings.{NotesAs}
 use Rattle.seat_work.proofs.RegionNotes.{give_noted}
-use Rattle.seat_work.proofs.regions.give_region.Goals as goal
+use Rattle.seat_work.proofs.regions.give_apart.Goals as goal
 
 pub give-requires-clause-region : goal.give-requires-clause-region
 give-requires-clause-region g c =

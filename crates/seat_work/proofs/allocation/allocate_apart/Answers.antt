@@ -18,7 +18,7 @@ use Rattle.shared_pool.specs.SeatLanes.{lane_of}
 use Rattle.shared_pool.specs.SeatViews.{view_of}
 use Rattle.seat_work.specs.Readings.{NotesAs}
 use Rattle.seat_work.proofs.Noting.{allots_on, notes_given, notes_on, same_lane}
-use Rattle.seat_work.proofs.allocation.allocate_taken.Goals as goal
+use Rattle.seat_work.proofs.allocation.allocate_apart.Goals as goal
 
 pub take_region-requires-clause-class : goal.take_region-requires-clause-class
 take_region-requires-clause-class g c =
