@@ -2,7 +2,7 @@
 
 use crate::known::{Begun, Known, begun_in};
 use crate::lines::words_behind;
-use crate::objects::{at_bin, busy, object_of, ref_did};
+use crate::objects::{at_bin, busy, object, ref_did};
 use crate::words::Words;
 use crate::{LineNo, TextNo};
 use pool_law::{CacheNo, Did, Note, Object, Parcel, RegionId, RootId, ViewData};
@@ -44,13 +44,12 @@ impl Notes {
     pub fn note(&mut self, words: &mut Words) -> Result<(u32, Note), TextNo> {
         let _note = words.next();
         let lane = words.small()?;
-        let word = words.next();
-        let note = if word == "ref" {
+        let note = if words.take("ref") {
             self.reference(words)?
-        } else if word == "busy" {
-            busy(words)?
+        } else if words.take("busy") {
+            Note::Busy(busy(words)?)
         } else {
-            self.step(words, lane, word)?
+            self.step(words, lane)?
         };
         Ok((lane, note))
     }
@@ -65,9 +64,9 @@ impl Notes {
         })
     }
 
-    // A step at the object that begins with this word.
-    fn step(&mut self, words: &mut Words, lane: u32, word: &str) -> Result<Note, TextNo> {
-        let object = object_of(words, word)?;
+    // A step at an object.
+    fn step(&mut self, words: &mut Words, lane: u32) -> Result<Note, TextNo> {
+        let object = object(words)?;
         let number = words.number()?;
         let did = match object {
             Object::Arena(arena) => self.at_arena(words, lane, arena)?,

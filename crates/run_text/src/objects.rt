@@ -1,11 +1,26 @@
 //! What notes say that needs nothing else: objects, handles, steps on a count, busy marks.
 
+ghost use Rattle.std.specs.Prelude.{◌≡◌, ◌++◌, ◌∷◌, [], List, decimal};
+ghost use Rattle.pool_law.specs.Text.{Text, did_words, object_words, ref_words, spaced};
+ghost use Rattle.pool_law.specs.declared.note.Did.{Did};
+ghost use Rattle.pool_law.specs.declared.note.Held.{Held};
+ghost use Rattle.pool_law.specs.declared.note.Object.{Object};
+ghost use Rattle.pool_law.specs.declared.note.RefDid.{RefDid};
+ghost use Rattle.run_text.specs.Reading.{Gives};
+ghost use Rattle.run_text.specs.Told.{FitsDid, FitsHeld, FitsObject, FitsRef, did_told, kind_done};
+ghost use Rattle.run_text.specs.Told.Kind.{OfBin};
+
 use crate::words::Words;
 use crate::{LineNo, TextNo};
-use pool_law::{Did, Held, Note, Object, RefDid};
+use pool_law::{Did, Held, Object, RefDid};
 
-/// The object that begins with this word.
-pub fn object_of(words: &mut Words, word: &str) -> Result<Object, TextNo> {
+/// The object of the next words.
+pub fn object(words: &mut Words) -> Result<Object, TextNo>
+    ensures { (object : Object) (more : List Text) → FitsObject object
+        → words.old.rest.now ≡ spaced (object_words object ++ more)
+        → Gives result words.new.rest.now object more }
+{
+    let word = words.next();
     if word == "arena" {
         Ok(Object::Arena(words.small()?))
     } else if word == "cache" {
@@ -26,7 +41,11 @@ pub fn object_of(words: &mut Words, word: &str) -> Result<Object, TextNo> {
 }
 
 /// What was done to a bin.
-pub fn at_bin(words: &mut Words) -> Result<Did, TextNo> {
+pub fn at_bin(words: &mut Words) -> Result<Did, TextNo>
+    ensures { (did : Did) (more : List Text) → kind_done did ≡ OfBin → FitsDid did
+        → words.old.rest.now ≡ spaced (did_words did ++ more)
+        → Gives result words.new.rest.now (did_told did) more }
+{
     let word = words.next();
     if word == "handle" {
         Ok(Did::Handle(words.small()?))
@@ -40,7 +59,11 @@ pub fn at_bin(words: &mut Words) -> Result<Did, TextNo> {
 }
 
 /// What was done to the count of a root.
-pub fn ref_did(words: &mut Words) -> Result<RefDid, TextNo> {
+pub fn ref_did(words: &mut Words) -> Result<RefDid, TextNo>
+    ensures { (did : RefDid) (more : List Text) → FitsRef did
+        → words.old.rest.now ≡ spaced (ref_words did ++ more)
+        → Gives result words.new.rest.now did more }
+{
     let word = words.next();
     if word == "born" {
         Ok(RefDid::Born)
@@ -60,9 +83,12 @@ pub fn ref_did(words: &mut Words) -> Result<RefDid, TextNo> {
 }
 
 /// A busy mark.
-pub fn busy(words: &mut Words) -> Result<Note, TextNo> {
-    let word = words.next();
-    let object = object_of(words, word)?;
+pub fn busy(words: &mut Words) -> Result<Held, TextNo>
+    ensures { (held : Held) (more : List Text) → FitsHeld held
+        → words.old.rest.now ≡ spaced (object_words held.object ++ (decimal held.number ∷ more))
+        → Gives result words.new.rest.now held more }
+{
+    let object = object(words)?;
     let number = words.number()?;
-    Ok(Note::Busy(Held { object, number }))
+    Ok(Held { object, number })
 }
