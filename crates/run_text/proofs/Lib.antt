@@ -1,1 +1,3 @@
+pub mod DidLemmas
+pub mod NoteLemmas
 pub mod WordLemmas

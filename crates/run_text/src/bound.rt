@@ -1,7 +1,7 @@
 //! What a lane's names are bound to, and how often the lane counts each root.
 
-use crate::known::RootKey;
-use pool_law::{Did, Note, RefDid, RootId};
+use crate::known::{RootKey, key_of};
+use pool_law::{Did, Note, RefDid};
 use std::alloc::{AllocError, Global};
 use std::collections::HashMap;
 
@@ -12,11 +12,6 @@ pub enum Bound {
     View(RootKey),
     /// A composite of parts of these roots.
     Whole(Vec<RootKey>),
-}
-
-/// Place and generation of a root.
-pub fn key_of(root: &RootId) -> RootKey {
-    (root.place, root.generation)
 }
 
 /// A lane between two notes.

@@ -1,8 +1,8 @@
 //! How many notes each command of a lane made.
 
-use crate::bound::{Bound, Standing, key_of};
+use crate::bound::{Bound, Standing};
 use crate::cutter::Cutter;
-use crate::known::RootKey;
+use crate::known::{RootKey, key_of};
 use pool_law::{Answered, Command, Did, Note, Reply, ReplyList};
 use std::alloc::{AllocError, Global};
 

@@ -1,14 +1,17 @@
 //! What the notes tell of roots and regions.
 
-use crate::words::Words;
-use crate::{LineNo, TextNo};
-use pool_law::{Place, RegionId, RootId};
+use pool_law::{Did, Note, Object, Place, RegionId, RootId};
 use size_classes::SizeClasses;
 use std::alloc::{AllocError, Global};
 use std::collections::{BTreeMap, HashMap};
 
 /// Place and generation of a root.
 pub type RootKey = (u32, u32);
+
+/// Place and generation of a root.
+pub fn key_of(root: &RootId) -> RootKey {
+    (root.place, root.generation)
+}
 
 /// Arena and number of a taking.
 pub type TakingKey = (u32, u64);
@@ -20,19 +23,24 @@ pub struct Taking {
     pub region: RegionId,
     /// The uses that its last birth or growth tells.
     pub uses: u64,
-    /// The uses that the last birth or growth tells which was read so far.
+    /// The uses that the last birth or growth tells which was passed so far.
     pub so_far: u64,
 }
 
-/// How a root begins to use a region, at its birth or its growth.
+/// The use of a region that a birth or a growth begins.
 #[derive(Clone, Copy, Drop)]
-pub struct Begun {
+pub struct Use {
     /// The taking of the region.
     pub taking: TakingKey,
     /// How many uses were made of it, with this one.
     pub uses: u64,
-    /// The bytes of the root then.
-    pub capacity: u32,
+}
+
+fn use_of(region: &RegionId) -> Use {
+    Use {
+        taking: (region.place.arena, region.taking),
+        uses: region.uses,
+    }
 }
 
 /// All roots and regions that the notes of a text tell of.
@@ -41,8 +49,8 @@ pub struct Known {
     sizes: SizeClasses,
     takings: HashMap<TakingKey, Taking>,
     births: HashMap<RootKey, RootId>,
-    // The births and growths at each root place, by place and number.
-    begun: BTreeMap<(u32, u64), Begun>,
+    // The uses that begin at each root place, by place and number.
+    begun: BTreeMap<(u32, u64), Use>,
 }
 
 // The greatest chunk, which has the classes of all others: 2^9 pages of so many bytes.
@@ -69,160 +77,125 @@ impl Known {
         }
     }
 
-    /// The rest of a line tells of a region that a lane takes of an arena: class, spot and number.
+    /// A region that a lane takes of an arena, by what its line tells: class, spot and number.
     pub fn region_taken(
         &self,
-        words: &mut Words,
         lane: u32,
         arena: u32,
-    ) -> Result<RegionId, TextNo> {
-        let class = words.small()?;
-        let (chunk, offset) = words.pair('+')?;
-        let taking = words.number()?;
-        let Some(len) = self.size_of(class) else {
-            return Err(words.refused(LineNo::Region));
-        };
-        Ok(RegionId {
+        class: u32,
+        told: &RegionId,
+    ) -> Option<RegionId> {
+        let len = self.size_of(class)?;
+        Some(RegionId {
             place: Place {
                 arena,
-                chunk,
-                offset,
+                chunk: told.place.chunk,
+                offset: told.place.offset,
                 len,
             },
             class,
             owner: lane,
-            taking,
+            taking: told.taking,
             uses: 0,
         })
     }
 
-    /// What a note line tells of takings, births and growths, and no more, is known.
-    pub fn learn(&mut self, words: &mut Words) -> Result<(), TextNo> {
-        let _note = words.next();
-        let lane = words.small()?;
-        let object = words.next();
-        if object == "arena" {
-            self.learn_taking(words, lane)
-        } else if object == "root" {
-            self.learn_use(words)
-        } else {
-            Ok(())
+    /// What a line tells of a taking is known.
+    pub fn learn_taking(&mut self, lane: u32, told: &Note) -> Result<(), AllocError> {
+        if let Note::At {
+            object: Object::Arena(arena),
+            did: Did::Take { class, region },
+            ..
+        } = told
+            && let Some(region) = self.region_taken(lane, *arena, *class, region)
+        {
+            let taking = Taking {
+                region,
+                uses: 0,
+                so_far: 0,
+            };
+            self.takings.insert((*arena, region.taking), taking)?;
         }
-    }
-
-    fn learn_taking(&mut self, words: &mut Words, lane: u32) -> Result<(), TextNo> {
-        let arena = words.small()?;
-        let _number = words.number()?;
-        if words.next() != "take" {
-            return Ok(());
-        }
-        let region = self.region_taken(words, lane, arena)?;
-        let taking = Taking {
-            region,
-            uses: 0,
-            so_far: 0,
-        };
-        self.takings
-            .insert((arena, region.taking), taking)
-            .map_err(AllocError::from)?;
         Ok(())
     }
 
-    fn learn_use(&mut self, words: &mut Words) -> Result<(), TextNo> {
-        let place = words.small()?;
-        let number = words.number()?;
-        let word = words.next();
-        let begun = if word == "birth" {
-            let generation = words.small()?;
-            let begun = begun_in(words)?;
-            self.learn_birth(place, generation, begun.capacity)?;
-            begun
-        } else if word == "grow" {
-            begun_in(words)?
-        } else {
-            return Ok(());
-        };
+    /// What a line tells of a birth or a growth is known, once all takings are.
+    pub fn learn_use(&mut self, told: &Note) -> Result<(), AllocError> {
+        if let Note::At {
+            object: Object::Root(place),
+            number,
+            did,
+        } = told
+        {
+            match did {
+                Did::Birth { root, region } => {
+                    let born = RootId {
+                        place: *place,
+                        ..*root
+                    };
+                    self.births.insert(key_of(&born), born)?;
+                    self.learn_begun(*place, *number, use_of(region))?;
+                }
+                Did::Grow { region, .. } => self.learn_begun(*place, *number, use_of(region))?,
+                _ => {}
+            }
+        }
+        Ok(())
+    }
+
+    fn learn_begun(&mut self, place: u32, number: u64, begun: Use) -> Result<(), AllocError> {
         if let Some(taking) = self.takings.get_mut(&begun.taking) {
-            taking.uses = taking.uses.max(begun.uses);
+            taking.uses = begun.uses;
         }
-        self.begun
-            .insert((place, number), begun)
-            .map_err(AllocError::from)?;
+        self.begun.insert((place, number), begun)?;
         Ok(())
     }
 
-    fn learn_birth(&mut self, place: u32, generation: u32, capacity: u32) -> Result<(), TextNo> {
-        let root = RootId {
-            place,
-            generation,
-            capacity,
-        };
-        self.births
-            .insert((place, generation), root)
-            .map_err(AllocError::from)?;
-        Ok(())
+    /// The root of this place and generation.
+    pub fn born(&self, key: RootKey) -> Option<RootId> {
+        self.births.get(&key).copied()
     }
 
-    /// The root of this place and generation, which a line names.
-    pub fn born(&self, words: &Words, key: RootKey) -> Result<RootId, TextNo> {
-        match self.births.get(&key) {
-            Some(root) => Ok(*root),
-            None => Err(words.refused(LineNo::Root)),
-        }
-    }
-
-    /// The last birth or growth at a root place before the note of this number there.
-    pub fn begun_before(&self, place: u32, number: u64) -> Option<Begun> {
+    /// The use that a root place had before the note of this number there.
+    pub fn use_before(&self, place: u32, number: u64) -> Option<Use> {
         let (key, begun) = self.begun.range(..(place, number)).next_back()?;
         if key.0 == place { Some(*begun) } else { None }
     }
 
     /// The region of a taking, used so often.
-    pub fn region(&self, words: &Words, key: TakingKey, uses: u64) -> Result<RegionId, TextNo> {
-        match self.takings.get(&key) {
-            Some(taking) => Ok(RegionId {
-                uses,
-                ..taking.region
-            }),
-            None => Err(words.refused(LineNo::Region)),
-        }
+    pub fn region(&self, begun: Use) -> Option<RegionId> {
+        let taking = self.takings.get(&begun.taking)?;
+        Some(RegionId {
+            uses: begun.uses,
+            ..taking.region
+        })
     }
 
     /// The region of a taking, after its last use.
-    pub fn region_used(&self, words: &Words, key: TakingKey) -> Result<RegionId, TextNo> {
-        match self.takings.get(&key) {
-            Some(taking) => self.region(words, key, taking.uses),
-            None => Err(words.refused(LineNo::Region)),
-        }
+    pub fn region_used(&self, key: TakingKey) -> Option<RegionId> {
+        let taking = self.takings.get(&key)?;
+        Some(RegionId {
+            uses: taking.uses,
+            ..taking.region
+        })
     }
 
-    /// The region of a taking, after the uses that were read so far. All uses of a taking begin in the lane
+    /// The region of a taking, after the uses that were passed so far. All uses of a taking begin in the lane
     /// that took it, so its notes tell them in their order.
-    pub fn region_so_far(&self, words: &Words, key: TakingKey) -> Result<RegionId, TextNo> {
-        match self.takings.get(&key) {
-            Some(taking) => self.region(words, key, taking.so_far),
-            None => Err(words.refused(LineNo::Region)),
-        }
+    pub fn region_so_far(&self, key: TakingKey) -> Option<RegionId> {
+        let taking = self.takings.get(&key)?;
+        Some(RegionId {
+            uses: taking.so_far,
+            ..taking.region
+        })
     }
 
-    /// The region of a use that begins, which is read now.
-    pub fn region_begun(&mut self, words: &Words, begun: Begun) -> Result<RegionId, TextNo> {
+    /// The region of a use that begins, by what its line tells: the use is passed now.
+    pub fn begin(&mut self, told: &RegionId) -> Option<RegionId> {
+        let begun = use_of(told);
         if let Some(taking) = self.takings.get_mut(&begun.taking) {
             taking.so_far = begun.uses;
         }
-        self.region(words, begun.taking, begun.uses)
+        self.region(begun)
     }
-}
-
-/// The rest of a line tells of a use that begins: region and capacity.
-pub fn begun_in(words: &mut Words) -> Result<Begun, TextNo> {
-    let spot = words.place(0)?;
-    let taking = words.number()?;
-    let uses = words.number()?;
-    let capacity = words.small()?;
-    Ok(Begun {
-        taking: (spot.arena, taking),
-        uses,
-        capacity,
-    })
 }

@@ -10,12 +10,15 @@ ghost use Rattle.std.specs.Prelude.{◌≡◌};
 mod bound;
 mod cutter;
 mod cutting;
+mod dids;
 mod ends;
+mod filling;
 mod known;
 mod lines;
 mod notes;
 mod objects;
 mod reading;
+mod regions;
 mod replies;
 mod words;
 

@@ -5,8 +5,9 @@ ghost use Rattle.run_text.specs.Reads.{Reads};
 
 use crate::cutting::answered_by;
 use crate::ends::{chunks_of, leaks_of};
+use crate::filling::Filler;
 use crate::lines::{end_of, lines_of, number_behind, words_behind};
-use crate::notes::Notes;
+use crate::notes::note_line;
 use crate::replies::replies_of;
 use crate::{LineNo, TextNo};
 use pool_law::{
@@ -47,20 +48,21 @@ pub fn read_run(alloc: Global, trace: Trace, shape: Shape, text: &str) -> Result
         leaks,
     };
     if !answers_all(run.trace.lanes.items(), run.logs.items()) {
-        return Err(refused(0));
+        return Err(refusal_of(0, LineNo::Form));
     }
     let shown = text_of(alloc, &run, true)?;
     if shown.items() != text.as_bytes() {
-        return Err(refused(lines_shared(shown.items(), text.as_bytes())));
+        let shared = lines_shared(shown.items(), text.as_bytes());
+        return Err(refusal_of(shared, LineNo::Form));
     }
     Ok(run)
 }
 
 // The refusal of the line behind so many.
-fn refused(count: usize) -> TextNo {
+fn refusal_of(count: usize, why: LineNo) -> TextNo {
     TextNo::Line {
         number: number_behind(count),
-        why: LineNo::Form,
+        why,
     }
 }
 
@@ -93,22 +95,48 @@ fn notes_of(
     from: usize,
     to: usize,
 ) -> Result<Vec<Vec<Note>>, TextNo> {
-    let mut all = Vec::new(alloc);
-    for _ in 0..lanes {
-        all.push(Vec::new(alloc)).map_err(AllocError::from)?;
-    }
-    let mut notes = Notes::told_by(alloc, arenas, lines, from, to)?;
-    for at in from..to {
-        let mut words = words_behind(lines, at)?;
-        let (lane, note) = notes.note(&mut words)?;
+    let told = told_in(alloc, lines, from, to)?;
+    let mut filler = Filler::told_by(alloc, arenas, &told)?;
+    let mut all = no_notes(alloc, lanes)?;
+    let mut at = from;
+    for (lane, note) in told {
+        let note = match filler.note(lane, note) {
+            Ok(note) => note,
+            Err(why) => return Err(refusal_of(at, why)),
+        };
         match all.get_mut(lane as usize) {
             Some(log) => log.push(note).map_err(AllocError::from)?,
-            None => return Err(words.refused(LineNo::Form)),
+            None => return Err(refusal_of(at, LineNo::Form)),
         }
+        at = at.saturating_add(1);
     }
     // Each lane closes its caches, so each has notes.
     if all.iter().any(|log| log.is_empty()) {
-        return Err(refused(to));
+        return Err(refusal_of(to, LineNo::Form));
+    }
+    Ok(all)
+}
+
+// What the lines from one to another tell of notes, each with its lane.
+fn told_in(
+    alloc: Global,
+    lines: &[&str],
+    from: usize,
+    to: usize,
+) -> Result<Vec<(u32, Note)>, TextNo> {
+    let mut told = Vec::new(alloc);
+    for at in from..to {
+        let note = note_line(alloc, &mut words_behind(lines, at)?)?;
+        told.push(note).map_err(AllocError::from)?;
+    }
+    Ok(told)
+}
+
+// No notes, for so many lanes.
+fn no_notes(alloc: Global, lanes: usize) -> Result<Vec<Vec<Note>>, AllocError> {
+    let mut all = Vec::new(alloc);
+    for _ in 0..lanes {
+        all.push(Vec::new(alloc))?;
     }
     Ok(all)
 }
