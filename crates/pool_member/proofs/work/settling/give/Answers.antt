@@ -1,9 +1,12 @@
 use Rattle.std.proofs.Common.{◌+◌, ◌≤◌, None, Some, refl, sym, subst, arith}
+use Rattle.pool_law.specs.declared.note.Did.TheVariants.{Give}
 use Rattle.pool_law.specs.declared.note.Object.TheVariants.{Arena}
+use Rattle.shared_pool.specs.Notes.{plain}
 use Rattle.seat_work.specs.Answers.{hand_with}
 use Rattle.seat_work.proofs.Calls.{gave_region}
 use Rattle.seat_work.proofs.Holds.{holds_region}
 use Rattle.seat_work.proofs.Later.{later_has, later_noted}
+use Rattle.seat_tries.proofs.Takings.{met_taken, noted_taken}
 use Rattle.pool_member.specs.declared.pending.Pending.{Pending}
 use Rattle.pool_member.specs.Pendings.{PutsAway}
 use Rattle.pool_member.specs.Returns.{given, given_with}
@@ -45,3 +48,14 @@ returns-in-Held-clause-returned c =
     let le = later_given pool old new
     (later_has pool old new held.ensures.same c.requires.works.seat held.ensures.seat held.ensures.held.1.marked) in
     omega (arith, le)
+
+pub returns-in-Did-clause-took : goal.returns-in-Did-clause-took
+returns-in-Did-clause-took c =
+    let id = c.args.own.id in
+    noted_taken c.args.pool.now c.args.seat.now c.give.new.seat (Arena id.place.arena) c.in-Did._number
+    (plain (Give id)) refl c.in-Did.ensures.did
+
+pub returns-in-Held-clause-took : goal.returns-in-Held-clause-took
+returns-in-Held-clause-took c =
+    met_taken c.args.pool.now c.args.seat.now c.give.new.seat (Arena c.args.own.id.place.arena) c.in-Held._held
+    c.in-Held.ensures.held.1
