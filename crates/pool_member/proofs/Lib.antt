@@ -12,6 +12,7 @@ pub mod Accessing
 pub mod Settling
 pub mod Asking
 pub mod Allotted
+pub mod Asked
 pub mod Trims
 pub mod Passing
 pub mod Lists

@@ -16,6 +16,7 @@ use Rattle.seat_work.proofs.Proceeding.{changes_on, goes_none}
 use Rattle.seat_tries.specs.Allocations.{refused, HasCause}
 use Rattle.seat_tries.specs.declared.allocation.AllocNo.{AllocNo as TriesNo}
 use Rattle.seat_tries.specs.declared.allocation.AllocNo.TheVariants as tries
+use Rattle.seat_tries.specs.Taking.{taken}
 use Rattle.seat_tries.proofs.Goings.{meets_on}
 use Rattle.pool_member.specs.declared.account.Account.{Account}
 use Rattle.pool_member.specs.declared.member.Member.{Member}
@@ -38,9 +39,9 @@ module _ (pool : SharedPool) (old : Member) where
   -- what a try left is what the thread has to put away
   pub settles : (new : PoolSeat) (left : Pending) → IsThread pool old → ¬ IsSettled old
       → PutsAway pool (owed old.pending) old.seat new left
-      → given_with old.seat old.pending ≤ given_with new left
+      → given_with old.seat old.pending ≤ given_with new left → taken new ≡ taken old.seat
       → Settles pool old (record old { seat = new; pending = left })
-  settles new left is some away returned =
+  settles new left is some away returned took =
       let after : Member = record old { seat = new; pending = left } in let did = away.proceeds in
       let spends = spends_none no_change 0 old.account old.account refl (omega arith) refl (λ other. refl)
       (λ other. refl) (λ other. refl) (λ other. omega arith) (λ q kept. kept) in
@@ -57,6 +58,7 @@ module _ (pool : SharedPool) (old : Member) where
         changes = did.changes;
         rest = refl;
         returned = returned;
+        took = took;
         none = λ settled. absurd (some settled);
       }
 
@@ -72,6 +74,7 @@ module _ (pool : SharedPool) (old : Member) where
     };
     rest = refl;
     returned = omega arith;
+    took = refl;
     none = λ settled. refl;
   }
 
@@ -82,6 +85,7 @@ module _ (pool : SharedPool) (old : Member) where
     changes = changes_on no_change (view_of old.seat) (view_of mid.seat) (view_of new.seat) x.changes y.changes;
     rest = y.rest ∙ ap (λ (m : Member). record m { seat = new.seat; pending = new.pending }) x.rest;
     returned = le_trans x.returned y.returned;
+    took = y.took ∙ x.took;
     none =
         λ settled.
         (let same = x.none settled in y.none (ap (λ (m : Member). m.pending) same ∙ settled) ∙ same);

@@ -12,6 +12,7 @@ use Rattle.seat_work.specs.Works.{IsLater}
 use Rattle.seat_work.proofs.Later.{later_none, later_on}
 use Rattle.seat_work.proofs.Proceeding.{changes_on}
 use Rattle.seat_tries.specs.Leaving.{MeetsOther}
+use Rattle.seat_tries.specs.Taking.{taken}
 use Rattle.pool_member.specs.declared.account.Account.{Account}
 use Rattle.pool_member.specs.declared.answers.TryTrimNo.{TryTrimNo}
 use Rattle.pool_member.specs.declared.answers.TryTrimNo.TheVariants.{Busy, Spent}
@@ -149,6 +150,7 @@ module _ (pool : SharedPool) where
     does = does_on x.spent y.spent old mid new x.does y.does;
     moves = y.moves ∙ x.moves;
     later = later_on pool old.seat mid.seat new.seat x.later y.later;
+    took = y.took ∙ x.took;
   }
 
   pub trimmed_settled : (old new : Member) → Settles pool old new → HasTrimmed pool old new
@@ -157,6 +159,7 @@ module _ (pool : SharedPool) where
     does = settled pool old new x;
     moves = ap (λ (a : Account). a.moves) (same_account pool old new x);
     later = x.later;
+    took = x.took;
   }
 
   pub trimmed_none : (old : Member) → IsThread pool old → HasTrimmed pool old old
@@ -164,9 +167,9 @@ module _ (pool : SharedPool) where
 
   -- a step at a cache
   pub trimmed_once : (old : Member) (new : PoolSeat) (left : Pending) → IsThread pool old → 2 ≤ old.account.turns
-      → PutsAway pool 2 old.seat new left → HasTrimmed pool old
+      → PutsAway pool 2 old.seat new left → taken new ≡ taken old.seat → HasTrimmed pool old
       (record old { seat = new; account = record old.account { turns = old.account.turns - 2 }; pending = left })
-  trimmed_once old new left is le away =
+  trimmed_once old new left is le away took =
       let after : Member = record old {
         seat = new;
         account = record old.account { turns = old.account.turns - 2 };
@@ -186,6 +189,7 @@ module _ (pool : SharedPool) where
             (λ q kept. kept);
         moves = refl;
         later = away.later;
+        took = took;
       }
 
 -- ---- What it spent.

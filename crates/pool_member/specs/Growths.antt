@@ -3,13 +3,19 @@ use Rattle.std.specs.Prelude.{◌≡◌, ℕ, ◌+◌, ◌≤◌, false, Option,
 use Rattle.pool_law.specs.declared.id.RootId.{RootId}
 use Rattle.pool_law.specs.declared.note.Held.{Held}
 use Rattle.pool_law.specs.declared.note.Object.{Object}
+use Rattle.pool_law.specs.declared.run.Reply.{Reply}
+use Rattle.pool_law.specs.declared.run.Shape.{Shape}
+use Rattle.pool_law.specs.Patterns.{ask_arena, grow_with}
+use Rattle.pool_law.specs.Readers.{Reader, ◌>>=◌, ◌>>◌, give}
 use Rattle.pool_table.specs.Counts.{HasCount}
+use Rattle.pool_table.specs.declared.views.SeatView.{SeatView}
 use Rattle.shared_pool.specs.declared.pool.SharedPool.{SharedPool}
 use Rattle.shared_pool.specs.declared.seat.PoolSeat.{PoolSeat}
 use Rattle.shared_pool.specs.SeatViews.{view_of}
 use Rattle.shared_pool.specs.Seats.{FoundBusy}
 use Rattle.seat_work.specs.Capacities.{IsLearned}
 use Rattle.seat_work.specs.Changes.{Change, no_change}
+use Rattle.seat_work.specs.Readings.{NotesOn}
 use Rattle.seat_work.specs.Regrowths.{IsTold}
 use Rattle.seat_work.specs.Works.{IsLaterBut, Proceeds}
 use Rattle.pool_member.specs.declared.answers.CapacityNo.{CapacityNo}
@@ -19,7 +25,7 @@ use Rattle.pool_member.specs.declared.member.Member.{Member}
 use Rattle.pool_member.specs.declared.pending.Pending.{Pending}
 use Rattle.pool_member.specs.declared.work.attempted.AskNo.{AskNo}
 use Rattle.pool_member.specs.declared.work.attempted.AskNo.TheVariants as ask
-use Rattle.pool_member.specs.Pendings.{hand_of, owed, IsPending}
+use Rattle.pool_member.specs.Pendings.{hand_of, left_of, owed, IsPending}
 use Rattle.pool_member.specs.Regrowths.{IsRefusedBy, LeavesThread}
 use Rattle.pool_member.specs.Threads.{HasChanged}
 
@@ -76,3 +82,15 @@ pub record AsksOn
   pub later : IsLaterBut root pool old new
   pub counts : HasCount root (view_of new)
   pub has : HasAnswer pool root size old new answer
+
+-- how a growth is read on with a region of the arena
+abbrev pub grow_taken : Shape → ℕ → ℕ → RootId → ℕ → Reader (Result ℕ Reply)
+grow_taken shape lane class root size = ask_arena shape lane class >>= grow_with root size
+
+-- just the notes that the view has more are read so, on to what is left to put away and to this
+-- answer. Of another seat that was met the law of lanes says nothing
+abbrev pub Regrows :
+    Reader (Result ℕ Reply) → Result ℕ AskNo → Pending → SeatView → SeatView → Type 0
+Regrows r (Ok capacity) left old new = NotesOn r (left_of left >> give (Ok capacity)) old new
+Regrows r (Err ask.Busy) left old new = Unit {0}
+Regrows r (Err ask.Full) left old new = NotesOn r (left_of left >> give (Err Reply.Full)) old new

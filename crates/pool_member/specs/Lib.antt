@@ -16,3 +16,4 @@ pub mod Opening
 pub mod Closing
 pub mod Watching
 pub mod Allotting
+pub mod Growing

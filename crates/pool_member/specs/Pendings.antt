@@ -1,5 +1,7 @@
 -- What a thread has still to put away of what it began, and how its seat goes on with that.
 use Rattle.std.specs.Prelude.{ℕ, ◌+◌, ◌≤◌, None, Some}
+use Rattle.pool_law.specs.Patterns.{give_back}
+use Rattle.pool_law.specs.Readers.{Reader}
 use Rattle.shared_pool.specs.declared.pool.SharedPool.{SharedPool}
 use Rattle.shared_pool.specs.declared.seat.PoolSeat.{PoolSeat}
 use Rattle.seat_work.specs.Answers.{hand_with}
@@ -24,6 +26,11 @@ hand_of (Piece region) = hand_with None (Some region)
 abbrev pub owed : Pending → ℕ
 owed (Tried b) = tries.owed b
 owed (Piece region) = 1
+
+-- how the law of lanes reads on from there
+abbrev pub left_of : Pending → Reader (Unit {0})
+left_of (Tried b) = tries.left_of b
+left_of (Piece region) = give_back region.id
 
 -- it is the pool's
 abbrev pub IsPending : SharedPool → PoolSeat → Pending → Type 0

@@ -11,6 +11,7 @@ use Rattle.shared_pool.specs.MailAnswers.{HasOwnChannel}
 use Rattle.shared_pool.specs.SeatViews.{view_of}
 use Rattle.seat_work.specs.Changes.{Change, Changes, no_change, times}
 use Rattle.seat_work.specs.Works.{IsLater, Works}
+use Rattle.seat_tries.specs.Taking.{taken}
 use Rattle.pool_member.specs.declared.account.Account.{Account}
 use Rattle.pool_member.specs.declared.member.Member.{Member}
 use Rattle.pool_member.specs.declared.pending.Pending.{Pending}
@@ -91,12 +92,13 @@ moves_after true moves = moves
 moves_after false moves = if nat_lt moves (2 ^ 30) then moves + 1 else moves
 
 -- the same thread went on with what it had to put away, and nothing else of it changed; a region that
--- was to go back to its arena went there or is to go there still. Where it had nothing, nothing at all
--- changed
+-- was to go back to its arena went there or is to go there still, and none was taken. Where it had
+-- nothing, nothing at all changed
 pub record Settles (pool : SharedPool) (old new : Member) : Type 0 where
   pub thread : IsThread pool new
   pub later : IsLater pool old.seat new.seat
   pub changes : Changes no_change (view_of old.seat) (view_of new.seat)
   pub rest : new ≡ record old { seat = new.seat; pending = new.pending }
   pub returned : given_with old.seat old.pending ≤ given_with new.seat new.pending
+  pub took : taken new.seat ≡ taken old.seat
   pub none : IsSettled old → new ≡ old

@@ -13,6 +13,7 @@ use Rattle.shared_pool.specs.SeatViews.{view_of}
 use Rattle.seat_work.specs.Changes.{no_change}
 use Rattle.seat_work.specs.Hands.{empty_hand, IsHeld}
 use Rattle.seat_work.specs.Works.{IsLater}
+use Rattle.seat_tries.specs.Taking.{taken}
 use Rattle.pool_member.specs.declared.answers.TryTrimNo.{TryTrimNo}
 use Rattle.pool_member.specs.declared.answers.TryTrimNo.TheVariants.{Busy, Spent}
 use Rattle.pool_member.specs.declared.member.Member.{Member}
@@ -52,12 +53,14 @@ abbrev pub MayStop : SharedPool → Member → Member → TryTrimNo → Type 0
 MayStop pool old new Busy = MeetsAny pool old.seat new.seat
 MayStop pool old new Spent = new.account.turns < 2
 
--- what the thread did: it spent turns, and nothing changed of what it counts
+-- what the thread did: it spent turns, took no region of an arena, and nothing changed of what it
+-- counts
 pub record HasTrimmed (pool : SharedPool) (old new : Member) : Type 0 where
   pub spent : ℕ
   pub does : Does pool spent no_change None old new
   pub moves : new.account.moves ≡ old.account.moves
   pub later : IsLater pool old.seat new.seat
+  pub took : taken new.seat ≡ taken old.seat
 
 -- it spent no more turns than 2 for each region that went back to its arena or is to go there, for
 -- each mark of another seat that was in its way, and for so many caches that it found empty

@@ -1,3 +1,4 @@
 pub mod Goings
 pub mod Carrying
 pub mod TriedNotes
+pub mod Takings

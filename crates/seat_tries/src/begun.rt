@@ -1,6 +1,6 @@
 //! What a seat began and could not end, since another seat was in the way.
 
-ghost use Rattle.std.specs.Prelude.{◌<◌};
+ghost use Rattle.std.specs.Prelude.{◌≡◌, ◌<◌};
 ghost use Rattle.pool_law.specs.declared.note.Object.TheVariants.{Bin};
 ghost use Rattle.pool_law.specs.Dids as says;
 ghost use Rattle.pool_law.specs.Limits.{cached_classes};
@@ -12,6 +12,7 @@ ghost use Rattle.seat_work.specs.Readings.{NotesOn};
 ghost use Rattle.seat_work.specs.Works.{Works};
 ghost use Rattle.seat_work.specs.Answers.{with_place, with_both};
 ghost use Rattle.seat_tries.specs.Leaving.{hand_of, left_of, owed, IsBegun, GoesOn};
+ghost use Rattle.seat_tries.specs.Taking.{taken};
 
 use handle_bin::Handle;
 use pool_law::Region;
@@ -28,11 +29,12 @@ pub enum Begun {
     Both(Handle, Region),
 }
 
-/// Goes on with what was begun, and answers what is left of it.
+/// Goes on with what was begun, and answers what is left of it. No region is taken on the way.
 pub fn finish(pool: &SharedPool, seat: &mut PoolSeat, begun: Begun) -> Begun
     requires works { Works pool.now (hand_of begun) (owed begun) 0 seat.old }
     requires begun { IsBegun pool.now seat.old begun }
-    ensures { GoesOn pool.now (owed begun) no_change seat.old seat.new result }
+    ensures goes { GoesOn pool.now (owed begun) no_change seat.old seat.new result }
+    ensures took { taken seat.new ≡ taken seat.old }
 {
     match begun {
         Begun::Nothing => Begun::Nothing,
@@ -80,7 +82,8 @@ fn give_region(pool: &SharedPool, seat: &mut PoolSeat, handle: Handle, own: Regi
     requires works { Works pool.now (with_both handle.place own.id) 2 0 seat.old }
     requires handle { IsHandle pool.now handle }
     requires region { IsRegion pool.now seat.old own }
-    ensures { GoesOn pool.now 2 no_change seat.old seat.new result }
+    ensures goes { GoesOn pool.now 2 no_change seat.old seat.new result }
+    ensures took { taken seat.new ≡ taken seat.old }
 {
     match pool.give(seat, own) {
         Went::Did(_number, ()) => put_handle(pool, seat, handle),
@@ -93,6 +96,7 @@ pub(crate) fn put_handle(pool: &SharedPool, seat: &mut PoolSeat, own: Handle) ->
     requires works { Works pool.now (with_place own.place) 1 0 seat.old }
     requires handle { IsHandle pool.now own }
     ensures goes { GoesOn pool.now 1 no_change seat.old seat.new result }
+    ensures took { taken seat.new ≡ taken seat.old }
     ensures reads { NotesOn (note (Bin own.lane) (says.home own.place)) (left_of result)
         (view_of seat.old) (view_of seat.new) }
 {

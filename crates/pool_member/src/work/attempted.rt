@@ -4,14 +4,18 @@
 ghost use Rattle.std.specs.Prelude.{◌≡◌, ◌<◌, ◌≤◌, None, Some};
 ghost use Rattle.size_classes.specs.Sizes.{class_of, size_at};
 ghost use Rattle.pool_law.specs.Limits.{cached_classes, geometry_of};
+ghost use Rattle.pool_law.specs.Patterns.{grow_with, put_away as puts_away, regrow};
 ghost use Rattle.pool_table.specs.Counts.{HasCount};
 ghost use Rattle.shared_pool.specs.Regrowing.{back_of, grown_capacity};
+ghost use Rattle.shared_pool.specs.SeatLanes.{lane_of};
 ghost use Rattle.shared_pool.specs.SeatViews.{view_of};
 ghost use Rattle.seat_work.specs.Answers.{hand_with};
 ghost use Rattle.seat_work.specs.Hands.{empty_hand, IsRegion};
+ghost use Rattle.seat_work.specs.Readings.{NotesOn};
+ghost use Rattle.seat_work.specs.Regrowths.{grow_over};
 ghost use Rattle.seat_work.specs.Works.{Works};
-ghost use Rattle.pool_member.specs.Growths.{AsksOn};
-ghost use Rattle.pool_member.specs.Pendings.{PutsAway};
+ghost use Rattle.pool_member.specs.Growths.{grow_taken, AsksOn, Regrows};
+ghost use Rattle.pool_member.specs.Pendings.{left_of, PutsAway};
 
 use crate::pending::Pending;
 use crate::work::settling::{give, nothing};
@@ -40,7 +44,10 @@ pub(crate) fn ask(
     requires works { Works pool.now empty_hand 6 0 seat.old }
     requires counts { HasCount root (view_of seat.old) }
     requires class { class_of (geometry_of pool.now.table.layout.shape) size ≡ Some class }
-    ensures { AsksOn pool.now 6 root size seat.old seat.new result.0 result.1 }
+    ensures asks { AsksOn pool.now 6 root size seat.old seat.new result.0 result.1 }
+    ensures reads { let shape = pool.now.table.layout.shape in
+        Regrows (regrow shape (lane_of seat.old) root size) result.0 result.1
+        (view_of seat.old) (view_of seat.new) }
 {
     match pool.room(seat, root, size) {
         Went::Did(_number, Room::Enough(capacity)) => (Ok(capacity), nothing()),
@@ -61,7 +68,10 @@ fn ask_out(
     requires works { Works pool.now empty_hand 5 0 seat.old }
     requires counts { HasCount root (view_of seat.old) }
     requires class { class_of (geometry_of pool.now.table.layout.shape) size ≡ Some class }
-    ensures { AsksOn pool.now 5 root size seat.old seat.new result.0 result.1 }
+    ensures asks { AsksOn pool.now 5 root size seat.old seat.new result.0 result.1 }
+    ensures reads { let shape = pool.now.table.layout.shape in
+        Regrows (grow_over shape (lane_of seat.old) class root size) result.0 result.1
+        (view_of seat.old) (view_of seat.new) }
 {
     if class >= CACHED_CLASSES {
         return from_arena(pool, seat, root, size, class);
@@ -82,7 +92,10 @@ fn from_cache(
     requires counts { HasCount root (view_of seat.old) }
     requires class { class_of (geometry_of pool.now.table.layout.shape) size ≡ Some class }
     requires cached { class < cached_classes }
-    ensures { AsksOn pool.now 5 root size seat.old seat.new result.0 result.1 }
+    ensures asks { AsksOn pool.now 5 root size seat.old seat.new result.0 result.1 }
+    ensures reads { let shape = pool.now.table.layout.shape in
+        Regrows (grow_over shape (lane_of seat.old) class root size) result.0 result.1
+        (view_of seat.old) (view_of seat.new) }
 {
     match pool.pop_cached(seat, class) {
         Went::Did(_number, Some(region)) => move_into(pool, seat, root, size, region),
@@ -102,7 +115,10 @@ fn from_arena(
     requires works { Works pool.now empty_hand 4 0 seat.old }
     requires counts { HasCount root (view_of seat.old) }
     requires class { class_of (geometry_of pool.now.table.layout.shape) size ≡ Some class }
-    ensures { AsksOn pool.now 4 root size seat.old seat.new result.0 result.1 }
+    ensures asks { AsksOn pool.now 4 root size seat.old seat.new result.0 result.1 }
+    ensures reads { let shape = pool.now.table.layout.shape in
+        Regrows (grow_taken shape (lane_of seat.old) class root size) result.0 result.1
+        (view_of seat.old) (view_of seat.new) }
 {
     match pool.take(seat, class) {
         Went::Did(_number, Some(region)) => move_into(pool, seat, root, size, region),
@@ -123,7 +139,9 @@ fn move_into(
     requires counts { HasCount root (view_of seat.old) }
     requires region { IsRegion pool.now seat.old own }
     requires long { size ≤ size_at own.id.class }
-    ensures { AsksOn pool.now 3 root size seat.old seat.new result.0 result.1 }
+    ensures asks { AsksOn pool.now 3 root size seat.old seat.new result.0 result.1 }
+    ensures reads { Regrows (grow_with root size (Some own.id)) result.0 result.1
+        (view_of seat.old) (view_of seat.new) }
 {
     match pool.grow(seat, root, size, own) {
         Went::Did(_number, grown) => {
@@ -148,7 +166,9 @@ fn parts_of(grown: Grown, asked: u32) -> (u32, Region)
 fn put_back(pool: &SharedPool, seat: &mut PoolSeat, region: Region) -> Pending
     requires works { Works pool.now (hand_with None (Some region)) 2 0 seat.old }
     requires region { IsRegion pool.now seat.old region }
-    ensures { PutsAway pool.now 2 seat.old seat.new result }
+    ensures away { PutsAway pool.now 2 seat.old seat.new result }
+    ensures reads { NotesOn (puts_away region.id) (left_of result)
+        (view_of seat.old) (view_of seat.new) }
 {
     if region.id.class >= CACHED_CLASSES {
         return give(pool, seat, region);
@@ -161,7 +181,9 @@ fn put_cached(pool: &SharedPool, seat: &mut PoolSeat, own: Region) -> Pending
     requires works { Works pool.now (hand_with None (Some own)) 2 0 seat.old }
     requires region { IsRegion pool.now seat.old own }
     requires class { own.id.class < cached_classes }
-    ensures { PutsAway pool.now 2 seat.old seat.new result }
+    ensures away { PutsAway pool.now 2 seat.old seat.new result }
+    ensures reads { NotesOn (puts_away own.id) (left_of result)
+        (view_of seat.old) (view_of seat.new) }
 {
     match pool.put_cached(seat, own) {
         Went::Did(_number, Put::Kept) => nothing(),

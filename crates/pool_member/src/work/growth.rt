@@ -4,9 +4,10 @@ ghost use Rattle.std.specs.Prelude.{◌≡◌, ◌<◌, ◌≤◌, Some, IfErr, 
 ghost use Rattle.size_classes.specs.Sizes.{class_of};
 ghost use Rattle.pool_law.specs.Limits.{geometry_of};
 ghost use Rattle.pool_law.specs.Views.{most_capacity};
-ghost use Rattle.seat_work.specs.Regrowths.{grown, IsTold};
+ghost use Rattle.seat_work.specs.Regrowths.{grown, reply_of, IsTold};
 ghost use Rattle.pool_member.specs.Alone.{GrowsAlone};
 ghost use Rattle.pool_member.specs.Counting.{counted, known};
+ghost use Rattle.pool_member.specs.Growing.{AsksOf, GrowsOf, IsAsked, IsGrown};
 ghost use Rattle.pool_member.specs.Growths.{asked, MayRefuseAsked};
 ghost use Rattle.pool_member.specs.Threads.{Does, IsSettled, IsThread};
 
@@ -42,6 +43,7 @@ pub fn grow<W: Wait>(
         × (capacity ≤ known member.new.account.counts root)) }
     ensures told { IfOk result (λ capacity.
         IsTold pool.now root capacity member.old.seat member.new.seat) }
+    ensures notes { IsGrown pool.now root size (reply_of result) member.old member.new }
 {
     settle(rt, pool, member);
     grow_settled(rt, pool, member, root, size, class)
@@ -71,6 +73,7 @@ fn grow_settled<W: Wait>(
         × (capacity ≤ known member.new.account.counts root)) }
     ensures told { IfOk result (λ capacity.
         IsTold pool.now root capacity member.old.seat member.new.seat) }
+    ensures notes { GrowsOf pool.now root size (reply_of result) member.old.seat member.new }
 {
     member.account.turns -= 6;
     match seat_work::grow(rt, pool, &mut member.seat, root, size, class) {
@@ -103,6 +106,7 @@ pub fn try_grow(
         × (capacity ≤ known member.new.account.counts root)) }
     ensures told { IfOk result (λ capacity.
         IsTold pool.now root capacity member.old.seat member.new.seat) }
+    ensures notes { IsAsked pool.now root size result member.old member.new }
     ensures cause { IfErr result (MayRefuseAsked pool.now root member.old.seat member.new.seat) }
 {
     if try_settle(pool, member) {
@@ -134,6 +138,7 @@ fn try_grow_settled(
         × (capacity ≤ known member.new.account.counts root)) }
     ensures told { IfOk result (λ capacity.
         IsTold pool.now root capacity member.old.seat member.new.seat) }
+    ensures notes { AsksOf pool.now root size result member.old.seat member.new }
     ensures cause { IfErr result (MayRefuseAsked pool.now root member.old.seat member.new.seat) }
 {
     member.account.turns -= 6;

@@ -1,11 +1,15 @@
 //! How a thread goes on with what it has still to put away.
 
 ghost use Rattle.std.specs.Prelude.{◌≡◌, ◌+◌, ◌≤◌, ◌↔◌, false, IsTrue, None, Some};
+ghost use Rattle.pool_law.specs.Patterns.{give_back};
+ghost use Rattle.shared_pool.specs.SeatViews.{view_of};
 ghost use Rattle.seat_work.specs.Answers.{hand_with};
 ghost use Rattle.seat_work.specs.Hands.{IsRegion};
+ghost use Rattle.seat_work.specs.Readings.{NotesOn};
 ghost use Rattle.seat_work.specs.Works.{Works};
 ghost use Rattle.seat_tries.specs.Leaving.{MeetsOther};
-ghost use Rattle.pool_member.specs.Pendings.{hand_of, nothing, owed, IsPending, PutsAway};
+ghost use Rattle.seat_tries.specs.Taking.{taken};
+ghost use Rattle.pool_member.specs.Pendings.{hand_of, left_of, nothing, owed, IsPending, PutsAway};
 ghost use Rattle.pool_member.specs.Returns.{given, given_with};
 ghost use Rattle.pool_member.specs.Threads.{IsSettled, IsThread, Settles};
 
@@ -62,6 +66,7 @@ fn put_away(pool: &SharedPool, seat: &mut PoolSeat, pending: Pending) -> Pending
     requires pending { IsPending pool.now seat.old pending }
     ensures away { PutsAway pool.now (owed pending) seat.old seat.new result }
     ensures returned { given_with seat.old pending ≤ given_with seat.new result }
+    ensures took { taken seat.new ≡ taken seat.old }
 {
     match pending {
         Pending::Tried(begun) => Pending::Tried(finish(pool, seat, begun)),
@@ -75,6 +80,9 @@ pub(crate) fn give(pool: &SharedPool, seat: &mut PoolSeat, own: Region) -> Pendi
     requires region { IsRegion pool.now seat.old own }
     ensures away { PutsAway pool.now 1 seat.old seat.new result }
     ensures returned { given seat.old + 1 ≤ given_with seat.new result }
+    ensures took { taken seat.new ≡ taken seat.old }
+    ensures reads { NotesOn (give_back own.id) (left_of result)
+        (view_of seat.old) (view_of seat.new) }
 {
     match pool.give(seat, own) {
         Went::Did(_number, ()) => nothing(),

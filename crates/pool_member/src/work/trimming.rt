@@ -4,6 +4,7 @@ ghost use Rattle.std.specs.Prelude.{◌≡◌, ◌<◌, false, if◌then◌else�
 ghost use Rattle.pool_law.specs.Limits.{cached_classes};
 ghost use Rattle.seat_work.specs.Hands.{empty_hand};
 ghost use Rattle.seat_work.specs.Works.{Works};
+ghost use Rattle.seat_tries.specs.Taking.{taken};
 ghost use Rattle.pool_member.specs.Threads.{IsSettled, IsThread};
 ghost use Rattle.pool_member.specs.Trims.{AreEmpty, FindsEmpty, HasPaid, HasShed, HasTrimmed, MayStop};
 
@@ -33,7 +34,8 @@ pub enum Shed {
 fn shed_one(pool: &SharedPool, seat: &mut PoolSeat, class: u32) -> Shed
     requires works { Works pool.now empty_hand 2 0 seat.old }
     requires class { class < cached_classes }
-    ensures { HasShed pool.now class seat.old seat.new result }
+    ensures shed { HasShed pool.now class seat.old seat.new result }
+    ensures took { taken seat.new ≡ taken seat.old }
 {
     match pool.pop_cached(seat, class) {
         Went::Did(_number, Some(region)) => Shed::One(give(pool, seat, region)),

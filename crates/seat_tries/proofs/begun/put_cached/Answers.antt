@@ -75,7 +75,7 @@ returns-in-Did-default-Back c =
     (works_less pool hand 3 0 1 0 old c.requires.works (omega arith) (omega arith)) did._no
     (subst (λ (x : Put).
     IsNoted pool old mid (Cache own.id.owner own.id.class) did._number (plain (was_put own.id x)))
-    did.field-1-is did.ensures.did)) next.ensures
+    did.field-1-is did.ensures.did)) next.ensures.goes
 
 pub give_region-requires-in-Held-clause-works : goal.give_region-requires-in-Held-clause-works
 give_region-requires-in-Held-clause-works c =
@@ -97,4 +97,5 @@ returns-in-Held c =
     (later_busy pool old mid held.ensures.same c.requires.works.seat held.ensures.seat
     (Cache own.id.owner own.id.class) held._held held.ensures.held.1) (omega arith)
     (marked pool old mid held.ensures.seat hand (Cache own.id.owner own.id.class) held._held
-    (works_less pool hand 3 0 1 0 old c.requires.works (omega arith) (omega arith)) held.ensures.held.1) next.ensures
+    (works_less pool hand 3 0 1 0 old c.requires.works (omega arith) (omega arith)) held.ensures.held.1)
+    next.ensures.goes

@@ -24,6 +24,12 @@ use Rattle.seat_tries.proofs.Goings.{works_less}
 use Rattle.pool_member.specs.declared.work.attempted.AskNo.TheVariants.{Busy, Full}
 use Rattle.pool_member.specs.Growths.{AsksOn}
 use Rattle.pool_member.proofs.Asking.{asks_ended, asks_then, busy_goes, busy_has, busy_later}
+use Rattle.pool_law.specs.Patterns.{ask_arena, grow_with}
+use Rattle.pool_law.specs.declared.run.Reply.{Reply}
+use Rattle.seat_work.proofs.Noting.{notes_given}
+use Rattle.seat_work.proofs.RegionNotes.{take_noted}
+use Rattle.pool_member.specs.Growths.{grow_taken}
+use Rattle.pool_member.proofs.Asked.{nothing_left, regrows_on}
 use Rattle.pool_member.proofs.work.attempted.from_arena.Goals as goal
 
 pub take-requires-clause-class : goal.take-requires-clause-class
@@ -73,8 +79,8 @@ move_into-requires-clause-long c =
     subst (λ (k : ℕ). c.args.size ≤ size_at k) (sym region.1)
     (class_holds (geometry_of pool.table.layout.shape) c.args.size class c.requires.class)
 
-pub returns-in-Did-default-Some : goal.returns-in-Did-default-Some
-returns-in-Did-default-Some c =
+pub returns-in-Did-default-Some-clause-asks : goal.returns-in-Did-default-Some-clause-asks
+returns-in-Did-default-Some-clause-asks c =
     let pool = c.args.pool.now in let old = c.args.seat.now in let mid = c.take.new.seat in
     let did = c.in-Did-default-Some in let works = c.requires.works in let next = c.move_into in
     asks_then pool c.args.root c.args.size (hand_with None (Some did.region)) 1 3 4 old mid next.new.seat
@@ -86,11 +92,11 @@ returns-in-Did-default-Some c =
     c.args.class (Some did.region) (works_less pool empty_hand 4 0 1 0 old works (omega arith) (omega arith))
     (subst (λ (o : Option Region).
     IsNoted pool old mid (Arena (lane_of old % pool.table.layout.shape.arenas)) did._number
-    (plain (taken_or_full c.args.class o))) did.field-1-is did.ensures.did)) next.ensures
+    (plain (taken_or_full c.args.class o))) did.field-1-is did.ensures.did)) next.ensures.asks
 
 -- the arena was full
-pub returns-in-Did-default-None : goal.returns-in-Did-default-None
-returns-in-Did-default-None c =
+pub returns-in-Did-default-None-clause-asks : goal.returns-in-Did-default-None-clause-asks
+returns-in-Did-default-None-clause-asks c =
     let pool = c.args.pool.now in let old = c.args.seat.now in let mid = c.take.new.seat in
     let did = c.in-Did-default-None in let works = c.requires.works in let root = c.args.root in
     let told = region_told None in
@@ -107,8 +113,8 @@ returns-in-Did-default-None c =
     (still_counts told (view_of old) (view_of mid) root refl all.changes c.requires.counts) tt)
 
 -- another seat was in its section
-pub returns-in-Held : goal.returns-in-Held
-returns-in-Held c =
+pub returns-in-Held-clause-asks : goal.returns-in-Held-clause-asks
+returns-in-Held-clause-asks c =
     let pool = c.args.pool.now in let old = c.args.seat.now in let mid = c.take.new.seat in let held = c.in-Held in
     let works = c.requires.works in let root = c.args.root in let size = c.args.size in
     let o = Arena (lane_of old % pool.table.layout.shape.arenas) in
@@ -119,3 +125,31 @@ returns-in-Held c =
     (busy_later pool root size old mid o held._held held.ensures.same held.ensures.seat held.ensures.held 4 works.seat)
     (subst (λ (v : SeatView). HasCount root v) (sym (ap (λ m. m.0) held.ensures.held.marked)) c.requires.counts)
     (busy_has pool root size old mid o held._held held.ensures.same held.ensures.seat held.ensures.held 4 works.seat))
+
+-- ---- What the law reads of it.
+
+pub returns-in-Did-default-Some-clause-reads : goal.returns-in-Did-default-Some-clause-reads
+returns-in-Did-default-Some-clause-reads c =
+    let a = c.args in let pool = a.pool.now in let old = a.seat.now in let mid = c.take.new.seat in
+    let did = c.in-Did-default-Some in let next = c.move_into in let shape = pool.table.layout.shape in
+    let lane = lane_of old in let grows = grow_with a.root a.size in let r = Some did.region in
+    regrows_on (grow_taken shape lane a.class a.root a.size) (grows (Some did.region.id)) next.result.1 (view_of old)
+    (view_of mid) (view_of next.new.seat) next.result.0
+    (notes_given (ask_arena shape lane a.class) (Some did.region.id) grows (view_of old) (view_of mid)
+    (take_noted pool old mid a.class r did._number
+    (subst (λ (o : Option Region).
+    IsNoted pool old mid (Arena (lane % shape.arenas)) did._number (plain (taken_or_full a.class o))) did.field-1-is
+    did.ensures.did))) next.ensures.reads
+
+pub returns-in-Did-default-None-clause-reads : goal.returns-in-Did-default-None-clause-reads
+returns-in-Did-default-None-clause-reads c =
+    let a = c.args in let pool = a.pool.now in let old = a.seat.now in let mid = c.take.new.seat in
+    let did = c.in-Did-default-None in let shape = pool.table.layout.shape in
+    let lane = lane_of old in let grows = grow_with a.root a.size in
+    nothing_left (grow_taken shape lane a.class a.root a.size) (Err Reply.Full) (view_of old) (view_of mid)
+    c.nothing.result c.nothing.ensures
+    (notes_given (ask_arena shape lane a.class) None grows (view_of old) (view_of mid)
+    (take_noted pool old mid a.class None did._number
+    (subst (λ (o : Option Region).
+    IsNoted pool old mid (Arena (lane % shape.arenas)) did._number (plain (taken_or_full a.class o))) did.field-1-is
+    did.ensures.did)))

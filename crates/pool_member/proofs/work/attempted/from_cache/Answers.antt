@@ -1,5 +1,5 @@
-use Rattle.std.proofs.Common.{ℕ, ◌≤◌, refl, sym, subst, arith}
-use Rattle.std.specs.Prelude.{Option, Some, None, IfSome, ◌≡◌}
+use Rattle.std.proofs.Common.{ℕ, ◌≤◌, refl, sym, ap, subst, arith}
+use Rattle.std.specs.Prelude.{Option, Some, None, IfSome, ◌≡◌, unwrap_or}
 use Rattle.size_classes.specs.Sizes.{size_at}
 use Rattle.pool_law.specs.Limits.{geometry_of}
 use Rattle.pool_law.specs.declared.id.Region.{Region}
@@ -19,6 +19,13 @@ use Rattle.seat_work.proofs.Later.{later_busy, later_but, later_noted, quiet_hit
 use Rattle.seat_work.proofs.Proceeding.{works_after}
 use Rattle.seat_tries.proofs.Goings.{works_less}
 use Rattle.pool_member.proofs.Asking.{asks_then}
+use Rattle.pool_law.specs.Patterns.{grow_with, obtain}
+use Rattle.pool_law.specs.Readers.{give}
+use Rattle.seat_work.specs.Regrowths.{grow_over}
+use Rattle.seat_work.proofs.Noting.{notes_then}
+use Rattle.seat_work.proofs.RegionNotes.{hit_noted, obtain_noted, passed_by}
+use Rattle.seat_tries.proofs.TriedNotes.{noted_lane}
+use Rattle.pool_member.proofs.Asked.{past_on, regrows_on}
 use Rattle.pool_member.proofs.work.attempted.from_cache.Goals as goal
 
 pub move_into-requires-clause-works : goal.move_into-requires-clause-works
@@ -61,8 +68,8 @@ move_into-requires-clause-long c =
     subst (λ (k : ℕ). c.args.size ≤ size_at k) (sym region.1)
     (class_holds (geometry_of pool.table.layout.shape) c.args.size class c.requires.class)
 
-pub returns-in-Did-default-Some : goal.returns-in-Did-default-Some
-returns-in-Did-default-Some c =
+pub returns-in-Did-default-Some-clause-asks : goal.returns-in-Did-default-Some-clause-asks
+returns-in-Did-default-Some-clause-asks c =
     let pool = c.args.pool.now in let old = c.args.seat.now in let mid = c.pop_cached.new.seat in
     let did = c.in-Did-default-Some in let works = c.requires.works in let next = c.move_into in
     asks_then pool c.args.root c.args.size (hand_with None (Some did.region)) 1 3 5 old mid next.new.seat
@@ -73,7 +80,7 @@ returns-in-Did-default-Some c =
     (popped_region pool old mid did.ensures.seat did._number None c.args.class (Some did.region)
     (works_less pool empty_hand 5 0 1 0 old works (omega arith) (omega arith))
     (subst (λ (o : Option Region). IsNoted pool old mid (Cache (lane_of old) c.args.class) did._number (plain (hit o)))
-    did.field-1-is did.ensures.did)) next.ensures
+    did.field-1-is did.ensures.did)) next.ensures.asks
 
 -- the cache is passed by: it was empty
 pub from_arena-requires-clause-works : goal.from_arena-requires-clause-works
@@ -96,8 +103,8 @@ from_arena-requires-clause-counts c =
     (subst (λ (o : Option Region). IsNoted pool old mid (Cache (lane_of old) c.args.class) did._number (plain (hit o)))
     did.field-1-is did.ensures.did)).changes c.requires.counts
 
-pub returns-in-Did-default-None : goal.returns-in-Did-default-None
-returns-in-Did-default-None c =
+pub returns-in-Did-default-None-clause-asks : goal.returns-in-Did-default-None-clause-asks
+returns-in-Did-default-None-clause-asks c =
     let pool = c.args.pool.now in let old = c.args.seat.now in let mid = c.pop_cached.new.seat in
     let did = c.in-Did-default-None in let works = c.requires.works in let next = c.from_arena in
     asks_then pool c.args.root c.args.size empty_hand 1 4 5 old mid next.new.seat next.result.0 next.result.1
@@ -107,7 +114,7 @@ returns-in-Did-default-None c =
     (popped_region pool old mid did.ensures.seat did._number None c.args.class None
     (works_less pool empty_hand 5 0 1 0 old works (omega arith) (omega arith))
     (subst (λ (o : Option Region). IsNoted pool old mid (Cache (lane_of old) c.args.class) did._number (plain (hit o)))
-    did.field-1-is did.ensures.did)) next.ensures
+    did.field-1-is did.ensures.did)) next.ensures.asks
 
 -- and another seat was in it
 pub from_arena-requires-in-Held-clause-works : goal.from_arena-requires-in-Held-clause-works
@@ -128,8 +135,8 @@ from_arena-requires-in-Held-clause-counts c =
     (works_less pool empty_hand 5 0 1 0 old works (omega arith) (omega arith)) held.ensures.held).changes
     c.requires.counts
 
-pub returns-in-Held : goal.returns-in-Held
-returns-in-Held c =
+pub returns-in-Held-clause-asks : goal.returns-in-Held-clause-asks
+returns-in-Held-clause-asks c =
     let pool = c.args.pool.now in let old = c.args.seat.now in let mid = c.pop_cached.new.seat in
     let held = c.in-Held in let works = c.requires.works in let next = c.from_arena-in-Held in
     asks_then pool c.args.root c.args.size empty_hand 1 4 5 old mid next.new.seat next.result.0 next.result.1
@@ -137,4 +144,38 @@ returns-in-Held c =
     (later_busy pool old mid held.ensures.same works.seat held.ensures.seat (Cache (lane_of old) c.args.class)
     held._held held.ensures.held)) (omega arith)
     (marked pool old mid held.ensures.seat empty_hand (Cache (lane_of old) c.args.class) held._held
-    (works_less pool empty_hand 5 0 1 0 old works (omega arith) (omega arith)) held.ensures.held) next.ensures
+    (works_less pool empty_hand 5 0 1 0 old works (omega arith) (omega arith)) held.ensures.held) next.ensures.asks
+
+-- ---- What the law reads of it.
+
+pub returns-in-Did-default-Some-clause-reads : goal.returns-in-Did-default-Some-clause-reads
+returns-in-Did-default-Some-clause-reads c =
+    let a = c.args in let pool = a.pool.now in let old = a.seat.now in let mid = c.pop_cached.new.seat in
+    let did = c.in-Did-default-Some in let next = c.move_into in let shape = pool.table.layout.shape in
+    let lane = lane_of old in let id = did.region.id in let grows = grow_with a.root a.size in
+    regrows_on (grow_over shape lane a.class a.root a.size) (grows (Some id)) next.result.1 (view_of old) (view_of mid)
+    (view_of next.new.seat) next.result.0
+    (notes_then (obtain shape lane a.class) (give (Some id)) (view_of old) (view_of mid) grows
+    (obtain_noted shape lane a.class c.requires.cached (Some id) (view_of old) (view_of mid)
+    (hit_noted pool old mid a.class (Some did.region) did._number
+    (subst (λ (o : Option Region). IsNoted pool old mid (Cache lane a.class) did._number (plain (hit o))) did.field-1-is
+    did.ensures.did)))) next.ensures.reads
+
+pub returns-in-Did-default-None-clause-reads : goal.returns-in-Did-default-None-clause-reads
+returns-in-Did-default-None-clause-reads c =
+    let a = c.args in let pool = a.pool.now in let old = a.seat.now in let mid = c.pop_cached.new.seat in
+    let did = c.in-Did-default-None in let next = c.from_arena in let shape = pool.table.layout.shape in
+    let lane = lane_of old in
+    let noted = subst (λ (o : Option Region).
+    IsNoted pool old mid (Cache lane a.class) did._number (plain (hit o))) did.field-1-is did.ensures.did in
+    past_on pool old mid next.new.seat a.class a.root a.size next.result.0 next.result.1 c.requires.cached
+    (hit_noted pool old mid a.class None did._number noted)
+    (noted_lane pool old mid (Cache lane a.class) did._number _ noted) next.ensures.reads
+
+pub returns-in-Held-clause-reads : goal.returns-in-Held-clause-reads
+returns-in-Held-clause-reads c =
+    let a = c.args in let pool = a.pool.now in let old = a.seat.now in let mid = c.pop_cached.new.seat in
+    let held = c.in-Held in let next = c.from_arena-in-Held in
+    past_on pool old mid next.new.seat a.class a.root a.size next.result.0 next.result.1 c.requires.cached
+    (passed_by pool old mid a.class held._held held.ensures.held)
+    (ap (λ m. unwrap_or m.0.own.number 0) held.ensures.held.marked) next.ensures.reads

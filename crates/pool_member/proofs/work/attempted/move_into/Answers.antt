@@ -19,6 +19,13 @@ use Rattle.seat_tries.proofs.Goings.{works_less}
 use Rattle.pool_member.specs.declared.work.attempted.AskNo.TheVariants.{Busy}
 use Rattle.pool_member.specs.Growths.{AsksOn}
 use Rattle.pool_member.proofs.Asking.{asks_back, busy_goes, busy_has, busy_later}
+use Rattle.pool_law.specs.Patterns.{grow_with, put_away}
+use Rattle.pool_law.specs.Readers.{◌>>◌, give}
+use Rattle.seat_work.specs.Readings.{NotesOn}
+use Rattle.seat_work.specs.Regrowths.{as_grown}
+use Rattle.seat_work.proofs.GrowthNotes.{grown_noted}
+use Rattle.pool_member.specs.Pendings.{left_of}
+use Rattle.pool_member.proofs.Asked.{left_on}
 use Rattle.pool_member.proofs.work.attempted.move_into.Goals as goal
 
 pub grow-requires-clause-region : goal.grow-requires-clause-region
@@ -48,8 +55,8 @@ put_back-requires-clause-region c =
     subst (λ (r : Region). IsRegion pool mid r) (sym (ap (λ p. p.1) c.parts_of-capacity.ensures))
     (is_region pool mid (back_of c.in-Did.grown) c.in-Did.ensures.hands)
 
-pub returns-in-Did : goal.returns-in-Did
-returns-in-Did c =
+pub returns-in-Did-clause-asks : goal.returns-in-Did-clause-asks
+returns-in-Did-clause-asks c =
     let a = c.args in let pool = a.pool.now in let old = a.seat.now in let mid = c.grow.new.seat in
     let did = c.in-Did in let hand = hand_with None (Some a.own) in let out = did.grown in let root = a.root in
     let next = c.put_back in let works = c.requires.works in let capacity = grown_capacity a.size out in
@@ -66,7 +73,7 @@ returns-in-Did c =
       learned pool old mid root capacity all.goes.knows did.ensures.knows,
       told_noted pool root capacity old mid did.ensures.same works.seat did.ensures.seat did._number _ did.ensures.did
           asks (told_grown root did._number (view_of old).own.number a.size a.own.id out),
-    ) next.ensures)
+    ) next.ensures.away)
 
 -- another was at the root, and the region comes back
 pub put_back-requires-in-Held-clause-works : goal.put_back-requires-in-Held-clause-works
@@ -83,8 +90,8 @@ put_back-requires-in-Held-clause-region c =
     subst (IsRegion pool mid) (sym held.ensures.held.0)
     (region_stays pool old mid c.args.own (ap (λ m. m.0.setting) held.ensures.held.1.marked) c.requires.region)
 
-pub returns-in-Held : goal.returns-in-Held
-returns-in-Held c =
+pub returns-in-Held-clause-asks : goal.returns-in-Held-clause-asks
+returns-in-Held-clause-asks c =
     let a = c.args in let pool = a.pool.now in let old = a.seat.now in let mid = c.grow.new.seat in
     let held = c.in-Held in let root = a.root in let found = held.ensures.held.1 in let works = c.requires.works in
     let hand = hand_with None (Some a.own) in let next = c.put_back-in-Held in let o = Root root.place in
@@ -94,4 +101,17 @@ returns-in-Held c =
     (busy_goes pool root a.size old mid o held._held held.ensures.same held.ensures.seat found 3 hand works)
     (subst (λ (v : SeatView). HasCount root v) (sym (ap (λ m. m.0) found.marked)) c.requires.counts)
     (busy_has pool root a.size old mid o held._held held.ensures.same held.ensures.seat found 3 works.seat)
-    next.ensures
+    next.ensures.away
+
+pub returns-in-Did-clause-reads : goal.returns-in-Did-clause-reads
+returns-in-Did-clause-reads c =
+    let a = c.args in let pool = a.pool.now in let old = a.seat.now in let mid = c.grow.new.seat in
+    let did = c.in-Did in let out = did.grown in let next = c.put_back in let left = left_of next.result in
+    let whole = grow_with a.root a.size (Some a.own.id) in let new = view_of next.new.seat in
+    subst (λ (n : ℕ). NotesOn whole (left >> give (Ok n)) (view_of old) new)
+    (sym (ap (λ p. p.0) c.parts_of-capacity.ensures))
+    (left_on a.root a.size a.own.id (as_grown a.size out) next.result (view_of old) (view_of mid) new
+    (grown_enough a.size a.own out did.ensures.answer)
+    (grown_noted pool old mid a.root a.size did._number a.own out did.ensures.answer did.ensures.did)
+    (subst (λ (r : Region). NotesOn (put_away r.id) left (view_of mid) new)
+    (ap (λ p. p.1) c.parts_of-capacity.ensures) next.ensures.reads))

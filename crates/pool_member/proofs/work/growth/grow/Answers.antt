@@ -1,9 +1,10 @@
 use Rattle.std.proofs.Common.{Some}
-use Rattle.seat_work.specs.Regrowths.{grown}
+use Rattle.seat_work.specs.Regrowths.{grown, reply_of}
 use Rattle.seat_work.proofs.Later.{later_but}
 use Rattle.seat_work.proofs.Regrowing.{if_told_on}
 use Rattle.pool_member.proofs.AloneLater.{grows_on}
 use Rattle.pool_member.proofs.Settling.{keeps_settled, settled_does}
+use Rattle.pool_member.proofs.Asked.{grown_on}
 use Rattle.pool_member.proofs.work.growth.grow.Goals as goal
 
 pub returns-clause-does : goal.returns-clause-does
@@ -22,3 +23,9 @@ returns-clause-alone g c =
     let pool = c.args.pool.now in let old = c.args.member.now in let mid = c.settle.new.member in
     grows_on c.args.root old mid c.grow_settled.new.member (keeps_settled pool old mid c.settle.ensures.settles)
     c.grow_settled.ensures.alone
+
+pub returns-clause-notes : goal.returns-clause-notes
+returns-clause-notes g c =
+    let a = c.args in let call = c.grow_settled in
+    grown_on a.pool.now a.root a.size a.member.now c.settle.new.member call.new.member c.settle.ensures.settles
+    c.settle.ensures.settled (reply_of call.result) call.ensures.notes

@@ -6,13 +6,16 @@ use Rattle.shared_pool.specs.SeatViews.{view_of}
 use Rattle.seat_work.specs.declared.regrowth.GrowNo.{GrowNo}
 use Rattle.seat_work.specs.declared.regrowth.GrowNo.TheVariants.{Full}
 use Rattle.seat_work.specs.Changes.{times}
-use Rattle.seat_work.specs.Regrowths.{grown}
+use Rattle.seat_work.specs.Regrowths.{grown, reply_of}
 use Rattle.seat_work.proofs.Regrowing.{told_so}
 use Rattle.pool_member.specs.declared.member.Member.{Member}
 use Rattle.pool_member.specs.Counting.{known, told}
 use Rattle.pool_member.proofs.AloneLater.{grows_alone, stays_asked}
 use Rattle.pool_member.proofs.Keeping.{has_count, knows_too, may_begin, settled_on, spends_none, tell_known, tells_settled}
 use Rattle.pool_member.proofs.Letters.{later_letters_but}
+use Rattle.pool_law.specs.Patterns.{regrow}
+use Rattle.shared_pool.specs.SeatLanes.{lane_of}
+use Rattle.pool_member.proofs.Asked.{nothing_left}
 use Rattle.pool_member.proofs.work.growth.grow_settled.Goals as goal
 
 pub grow-requires-clause-works : goal.grow-requires-clause-works
@@ -94,3 +97,16 @@ pub returns-in-Err-clause-alone : goal.returns-in-Err-clause-alone
 returns-in-Err-clause-alone g c =
     let old = c.args.member.now in let new : Member = record old { seat = c.grow.new.seat } in
     grows_alone c.args.pool.now c.args.root old new c.grow.ensures.later
+
+-- what the law reads of it
+pub returns-in-Ok-clause-notes : goal.returns-in-Ok-clause-notes
+returns-in-Ok-clause-notes g c =
+    let a = c.args in let old = a.member.now in let shape = a.pool.now.table.layout.shape in
+    nothing_left (regrow shape (lane_of old.seat) a.root a.size) (Ok c.in-Ok.capacity) (view_of old.seat)
+    (view_of c.grow.new.seat) old.pending c.requires.settled c.in-Ok.ensures.reads
+
+pub returns-in-Err-clause-notes : goal.returns-in-Err-clause-notes
+returns-in-Err-clause-notes g c =
+    let a = c.args in let old = a.member.now in let shape = a.pool.now.table.layout.shape in
+    nothing_left (regrow shape (lane_of old.seat) a.root a.size) (reply_of (Err c.in-Err.no)) (view_of old.seat)
+    (view_of c.grow.new.seat) old.pending c.requires.settled c.in-Err.ensures.reads

@@ -7,6 +7,7 @@ use Rattle.pool_member.specs.Growths.{asked}
 use Rattle.pool_member.proofs.Asking.{if_asked_told_on, if_refused_on, other_but}
 use Rattle.pool_member.proofs.AloneLater.{grows_none, grows_on}
 use Rattle.pool_member.proofs.Settling.{keeps_settled, same_account, settled_does, spends_only}
+use Rattle.pool_member.proofs.Asked.{asked_on}
 use Rattle.pool_member.proofs.work.growth.try_grow.Goals as goal
 
 pub returns-then-try_settle-clause-does : goal.returns-then-try_settle-clause-does
@@ -53,3 +54,9 @@ pub returns-clause-alone : goal.returns-clause-alone
 returns-clause-alone c =
     let pool = c.args.pool.now in let old = c.args.member.now in let mid = c.try_settle.new.member in
     grows_none c.args.root old mid (keeps_settled pool old mid c.try_settle.ensures.settles)
+
+pub returns-then-try_settle-clause-notes : goal.returns-then-try_settle-clause-notes
+returns-then-try_settle-clause-notes c =
+    let a = c.args in let call = c.try_grow_settled in let mid = c.try_settle in
+    asked_on a.pool.now a.root a.size a.member.now mid.new.member call.new.member mid.ensures.settles
+    (mid.ensures.settled.0 c.if-try_settle.true) call.result call.ensures.notes

@@ -12,6 +12,9 @@ use Rattle.pool_member.proofs.Asking.{asked_got, asked_gone}
 use Rattle.pool_member.proofs.AloneLater.{grows_alone, stays_asked}
 use Rattle.pool_member.proofs.Keeping.{has_count, kept_on, may_begin, spends_none, tell_known, tells_known}
 use Rattle.pool_member.proofs.Letters.{later_letters_but}
+use Rattle.pool_law.specs.Patterns.{regrow}
+use Rattle.shared_pool.specs.SeatLanes.{lane_of}
+use Rattle.pool_member.specs.Growths.{Regrows}
 use Rattle.pool_member.proofs.work.growth.try_grow_settled.Goals as goal
 
 pub ask-answer-requires-clause-works : goal.ask-answer-requires-clause-works
@@ -29,7 +32,7 @@ returns-in-Ok-clause-does c =
     let answer : Result ℕ AskNo = Ok c.in-Ok.capacity in
     let asks : AsksOn pool 6 root c.args.size old.seat call.new.seat answer left =
     subst (λ (r : Result ℕ AskNo). AsksOn pool 6 root c.args.size old.seat call.new.seat r left) c.in-Ok.is
-    call.ensures in
+    call.ensures.asks in
     let did = asks.proceeds in let change = asked answer in
     let after : Member = record old {
       seat = call.new.seat;
@@ -58,7 +61,7 @@ returns-in-Err-clause-does c =
     let answer : Result ℕ AskNo = Err c.in-Err.no in
     let asks : AsksOn pool 6 root c.args.size old.seat call.new.seat answer left =
     subst (λ (r : Result ℕ AskNo). AsksOn pool 6 root c.args.size old.seat call.new.seat r left) c.in-Err.is
-    call.ensures in
+    call.ensures.asks in
     let did = asks.proceeds in let change = asked answer in
     let after : Member = record old {
       seat = call.new.seat;
@@ -82,9 +85,26 @@ returns-in-Ok-clause-counts c =
 pub returns-in-Ok-clause-alone : goal.returns-in-Ok-clause-alone
 returns-in-Ok-clause-alone c =
     let old = c.args.member.now in let new : Member = record old { seat = c.ask-answer.new.seat } in
-    grows_alone c.args.pool.now c.args.root old new c.ask-answer.ensures.later
+    grows_alone c.args.pool.now c.args.root old new c.ask-answer.ensures.asks.later
 
 pub returns-in-Err-clause-alone : goal.returns-in-Err-clause-alone
 returns-in-Err-clause-alone c =
     let old = c.args.member.now in let new : Member = record old { seat = c.ask-answer.new.seat } in
-    grows_alone c.args.pool.now c.args.root old new c.ask-answer.ensures.later
+    grows_alone c.args.pool.now c.args.root old new c.ask-answer.ensures.asks.later
+
+-- what the law reads of it
+pub returns-in-Ok-clause-notes : goal.returns-in-Ok-clause-notes
+returns-in-Ok-clause-notes c =
+    let a = c.args in let old = a.member.now in let call = c.ask-answer in
+    let whole = regrow a.pool.now.table.layout.shape (lane_of old.seat) a.root a.size in
+    let u = view_of old.seat in let v = view_of call.new.seat in
+    subst (λ (p : Pending). Regrows whole (Ok c.in-Ok.capacity) p u v) (sym c.keep.ensures)
+    (subst (λ (r : Result ℕ AskNo). Regrows whole r call.result.1 u v) c.in-Ok.is call.ensures.reads)
+
+pub returns-in-Err-clause-notes : goal.returns-in-Err-clause-notes
+returns-in-Err-clause-notes c =
+    let a = c.args in let old = a.member.now in let call = c.ask-answer in
+    let whole = regrow a.pool.now.table.layout.shape (lane_of old.seat) a.root a.size in
+    let u = view_of old.seat in let v = view_of call.new.seat in
+    subst (λ (p : Pending). Regrows whole (Err c.in-Err.no) p u v) (sym c.keep.ensures)
+    (subst (λ (r : Result ℕ AskNo). Regrows whole r call.result.1 u v) c.in-Err.is call.ensures.reads)

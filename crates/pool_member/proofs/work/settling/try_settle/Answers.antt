@@ -34,4 +34,4 @@ returns-clause-settles c =
     (subst (λ (p : Pending). given_with old.seat p ≤ given_with call.new.seat c.keep.new.pending)
     c.replace-pending.ensures.value
     (subst (λ (p : Pending). given_with old.seat c.replace-pending.result ≤ given_with call.new.seat p)
-    (sym c.keep.ensures) call.ensures.returned))
+    (sym c.keep.ensures) call.ensures.returned)) call.ensures.took

@@ -1,4 +1,4 @@
-use Rattle.std.proofs.Common.{true, refl, subst, arith}
+use Rattle.std.proofs.Common.{true, refl, ◌∙◌, subst, arith}
 use Rattle.std.specs.Prelude.{Option, Some, None, IfSome, ◌≡◌}
 use Rattle.pool_law.specs.declared.id.Region.{Region}
 use Rattle.pool_law.specs.declared.note.Object.TheVariants.{Cache}
@@ -12,6 +12,7 @@ use Rattle.seat_work.proofs.Calls.{hit_region, marked, popped_region}
 use Rattle.seat_work.proofs.Later.{later_busy, later_none, later_noted, quiet_hit}
 use Rattle.seat_work.proofs.Proceeding.{works_after}
 use Rattle.seat_tries.proofs.Goings.{works_less}
+use Rattle.seat_tries.proofs.Takings.{marked_taken, noted_taken}
 use Rattle.pool_member.proofs.Pendings.{away_then, none_away}
 use Rattle.pool_member.proofs.Returns.{later_given, marked_given}
 use Rattle.pool_member.proofs.Trims.{any_here}
@@ -37,8 +38,8 @@ give-requires-clause-region c =
     did.field-1-is did.ensures.region)).0
 
 -- a region goes back
-pub returns-in-Did-default-Some : goal.returns-in-Did-default-Some
-returns-in-Did-default-Some c =
+pub returns-in-Did-default-Some-clause-shed : goal.returns-in-Did-default-Some-clause-shed
+returns-in-Did-default-Some-clause-shed c =
     let pool = c.args.pool.now in let old = c.args.seat.now in let mid = c.pop_cached.new.seat in
     let did = c.in-Did-default-Some in let works = c.requires.works in let next = c.give in
     let later = later_noted pool old mid did.ensures.same works.seat did.ensures.seat did.ensures.did (quiet_hit _) in
@@ -53,8 +54,8 @@ returns-in-Did-default-Some c =
     )
 
 -- the cache is empty
-pub returns-in-Did-default-None : goal.returns-in-Did-default-None
-returns-in-Did-default-None c =
+pub returns-in-Did-default-None-clause-shed : goal.returns-in-Did-default-None-clause-shed
+returns-in-Did-default-None-clause-shed c =
     let pool = c.args.pool.now in let old = c.args.seat.now in let mid = c.pop_cached.new.seat in
     let did = c.in-Did-default-None in let works = c.requires.works in
     let noted = subst (λ (o : Option Region).
@@ -76,8 +77,8 @@ returns-in-Did-default-None c =
     )
 
 -- another was in it
-pub returns-in-Held : goal.returns-in-Held
-returns-in-Held c =
+pub returns-in-Held-clause-shed : goal.returns-in-Held-clause-shed
+returns-in-Held-clause-shed c =
     let pool = c.args.pool.now in let old = c.args.seat.now in let mid = c.pop_cached.new.seat in
     let held = c.in-Held in let works = c.requires.works in let o = Cache (lane_of old) c.args.class in (
       none_away pool old mid 1 2 (omega arith)
@@ -87,3 +88,28 @@ returns-in-Held c =
       any_here pool old mid o held._held true works.seat held.ensures.seat held.ensures.held,
       marked_given pool old mid works.seat held.ensures.seat o held._held held.ensures.held,
     )
+
+-- ---- No region is taken.
+
+pub returns-in-Did-default-Some-clause-took : goal.returns-in-Did-default-Some-clause-took
+returns-in-Did-default-Some-clause-took c =
+    let old = c.args.seat.now in let mid = c.pop_cached.new.seat in let did = c.in-Did-default-Some in
+    let cache = Cache (lane_of old) c.args.class in
+    c.give.ensures.took
+    ∙ noted_taken c.args.pool.now old mid cache did._number (plain (hit (Some did.region))) refl
+    (subst (λ (o : Option Region). IsNoted c.args.pool.now old mid cache did._number (plain (hit o))) did.field-1-is
+    did.ensures.did)
+
+pub returns-in-Did-default-None-clause-took : goal.returns-in-Did-default-None-clause-took
+returns-in-Did-default-None-clause-took c =
+    let old = c.args.seat.now in let mid = c.pop_cached.new.seat in let did = c.in-Did-default-None in
+    let cache = Cache (lane_of old) c.args.class in
+    noted_taken c.args.pool.now old mid cache did._number (plain (hit None)) refl
+    (subst (λ (o : Option Region). IsNoted c.args.pool.now old mid cache did._number (plain (hit o))) did.field-1-is
+    did.ensures.did)
+
+pub returns-in-Held-clause-took : goal.returns-in-Held-clause-took
+returns-in-Held-clause-took c =
+    let old = c.args.seat.now in
+    marked_taken c.args.pool.now old c.pop_cached.new.seat (Cache (lane_of old) c.args.class) c.in-Held._held
+    c.in-Held.ensures.held
