@@ -9,14 +9,22 @@ use std::sync::atomic::{AtomicU64, Ordering};
 pub struct EventCount {
     changes: AtomicU64,
     asleep: AtomicU64,
+    looks: u32,
 }
 
 impl EventCount {
-    pub fn new() -> EventCount {
+    /// No change was counted. A worker is to look so often again before it brings a machine back.
+    pub fn new(looks: u32) -> EventCount {
         EventCount {
             changes: AtomicU64::new(0),
             asleep: AtomicU64::new(0),
+            looks,
         }
+    }
+
+    /// How often a worker looks again whether its machine can go on, before it brings it back.
+    pub fn looks(&self) -> u32 {
+        self.looks
     }
 
     /// How many changes were counted, wrapping.

@@ -6,6 +6,7 @@ use crate::event_count::EventCount;
 use crate::machine::{Machine, Stepped};
 use crate::table::{Playing, Status, Table};
 use std::alloc::AllocError;
+use std::hint::spin_loop;
 use std::mem::ManuallyDrop;
 use std::sync::ledger::{Ledger, Share};
 use std::sync::{Mutex, Wait};
@@ -165,7 +166,7 @@ fn take_turn<E, M: Machine<E>, T: Playing<M>, R: Wait>(
     Turn::Stepped(at + 1)
 }
 
-// Steps a machine until it cannot go on.
+// Steps a machine until it cannot go on, and looks so often whether it can again.
 fn go_on<E, M: Machine<E>, R: Wait>(
     rt: &R,
     shared: &E,
@@ -177,28 +178,44 @@ fn go_on<E, M: Machine<E>, R: Wait>(
         M.comes shared.now first machine.old → M.comes shared.now first machine.new }
 {
     let mut moves = 0;
+    let mut looks = changes.looks();
     for _ in rt.forever() {
         let seen = changes.read();
-        match machine.step(rt, shared) {
+        let status = match machine.step(rt, shared) {
             Ok(Stepped::Went) => {
-                moves += 1;
-                if moves == MOVES {
-                    changes.advance();
-                    moves = 0;
-                }
+                moves = one_more(changes, moves);
+                looks = changes.looks();
+                continue;
             }
             Ok(Stepped::Pending) => {
                 counted(changes, seen, moves > 0);
-                return Status::Ready;
+                Status::Ready
             }
-            Ok(Stepped::Waiting) => {
-                return Status::Since(counted(changes, seen, moves > 0));
-            }
+            Ok(Stepped::Waiting) => Status::Since(counted(changes, seen, moves > 0)),
             Ok(Stepped::Finished) => return Status::Finished,
             Err(AllocError) => return Status::Failed,
+        };
+        if looks == 0 {
+            return status;
         }
+        moves = 0;
+        looks -= 1;
+        spin_loop();
     }
     unreachable!()
+}
+
+// Counts one move more of a machine, and so many together as a change. Answers how many of them are
+// not counted as one.
+fn one_more(changes: &EventCount, moves: u32) -> u32
+    requires { moves < 64 }
+    ensures { result < 64 }
+{
+    if moves + 1 < MOVES {
+        return moves + 1;
+    }
+    changes.advance();
+    0
 }
 
 // Counts the moves of a machine as a change. Answers the count up to which it knows of no move of

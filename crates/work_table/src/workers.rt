@@ -16,6 +16,9 @@ use std::sync::{Mutex, Wait};
 use std::thread;
 use std::thread::Threads;
 
+/// Where each machine has a worker, that one looks so often again before it brings it back.
+const LOOKS_AGAIN: u32 = 256;
+
 /// Steps the machines on so many threads, or as many as there are machines, until all have finished
 /// or one finds no memory. All machines come back, each at its place.
 pub fn step_together<R: Threads + Wait + Sync, E: Sync, M: Machine<E> + Send>(
@@ -32,7 +35,8 @@ pub fn step_together<R: Threads + Wait + Sync, E: Sync, M: Machine<E> + Send>(
 {
     let count = machines.len().min(threads as usize).max(1);
     let blank = Blank::new(count as u64);
-    step_as::<Brand, R, E, Idler, M>(rt, alloc, shared, &mut Idler, machines, blank, count)
+    let looks = looks_for(count, machines.len());
+    step_as::<Brand, R, E, Idler, M>(rt, alloc, shared, &mut Idler, machines, blank, count, looks)
 }
 
 /// The same, and this thread steps `own` too, which no other does.
@@ -58,7 +62,7 @@ pub fn step_beside<R: Threads + Wait + Sync, E: Sync, O: Machine<E>, M: Machine<
         .min(threads as usize)
         .max(1);
     let blank = Blank::new(count as u64);
-    step_as::<Brand, R, E, O, M>(rt, alloc, shared, own, machines, blank, count)
+    step_as::<Brand, R, E, O, M>(rt, alloc, shared, own, machines, blank, count, 0)
 }
 
 // Steps the machines of this play on workers, and then by itself each that has not finished.
@@ -76,6 +80,7 @@ fn step_as<
     machines: Vec<M>,
     blank: Blank,
     worker_count: usize,
+    looks: u32,
 ) -> (Vec<M>, Result<(), AllocError>)
     requires name { blank.name ≡ T.name }
     requires parts { (blank.parts ≡ T.parts) × (T.parts ≡ worker_count) }
@@ -103,7 +108,8 @@ fn step_as<
     let (book, all) = blank.open::<T>();
     let (others, share) = hired(workers, all, worker_count - 1);
     let (table, machines) = Table::<M, T>::of(machines, places, statuses, book);
-    let (table, all) = at_work(rt, shared, own, table, others, Worker { share });
+    let changes = EventCount::new(looks);
+    let (table, all) = at_work(rt, shared, own, table, &changes, others, Worker { share });
     let failed = table.has_failed();
     let mut machines = table.into_machines(machines, all);
     if failed {
@@ -111,6 +117,12 @@ fn step_as<
     }
     let ended = step_all(rt, shared, own, &mut machines);
     (machines, ended)
+}
+
+// How often a worker looks again whether its machine can go on, before it brings it back. Where there
+// are more machines than workers it doesn't look again, since another machine may go on.
+fn looks_for(workers: usize, machines: usize) -> u32 {
+    if workers < machines { 0 } else { LOOKS_AGAIN }
 }
 
 // So many workers, each with one part of the ledger, of which one part is left.
@@ -144,6 +156,7 @@ fn at_work<
     shared: &E,
     own: &mut O,
     table: Table<M, T>,
+    changes: &EventCount,
     mut others: Vec<Worker<T>>,
     mut mine: Worker<T>,
 ) -> (Table<M, T>, Share<T>)
@@ -154,16 +167,15 @@ fn at_work<
     ensures share { (result.1.parts ≡ vec_len others + 1) × (result.1.amount ≡ 0) }
 {
     let lock = lock_of(table);
-    let changes = EventCount::new();
     if others.is_empty() {
-        work_beside(rt, shared, own, &lock, &changes, &mut mine);
+        work_beside(rt, shared, own, &lock, changes, &mut mine);
     } else {
         work_with(
             rt,
             shared,
             own,
             &lock,
-            &changes,
+            changes,
             &mut mine,
             others.as_mut_slice(),
         );
