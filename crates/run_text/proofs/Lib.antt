@@ -1,3 +1,6 @@
 pub mod DidLemmas
+pub mod FillLemmas
+pub mod KnownLemmas
 pub mod NoteLemmas
+pub mod TellLemmas
 pub mod WordLemmas

@@ -1,3 +1,5 @@
+pub mod Knowing
+pub mod Lines
 pub mod Reading
 pub mod Reads
 pub mod Told

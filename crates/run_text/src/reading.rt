@@ -104,6 +104,7 @@ fn notes_of(
             Ok(note) => note,
             Err(why) => return Err(refusal_of(at, why)),
         };
+        filler.pass(&note)?;
         match all.get_mut(lane as usize) {
             Some(log) => log.push(note).map_err(AllocError::from)?,
             None => return Err(refusal_of(at, LineNo::Form)),
