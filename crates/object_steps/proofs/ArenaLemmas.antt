@@ -1,5 +1,5 @@
 -- An arena that gives a run.
-use Rattle.std.proofs.Common.{◌≡◌, ℕ, zero, suc, ◌+◌, ◌-◌, ◌^◌, ◌<◌, ◌≤◌, List, [], ◌∷◌, length, Option, Some, None, Bool, true, false, refl, sym, ap, subst, arith, eqb-true, eq-eqb, inl, inr, ◌∙◌}
+use Rattle.std.proofs.Common.{◌≡◌, ℕ, zero, suc, ◌+◌, ◌-◌, ◌^◌, ◌<◌, ◌≤◌, List, [], ◌∷◌, ◌++◌, length, Option, Some, None, Bool, true, false, refl, sym, ap, subst, arith, eqb-true, eq-eqb, inl, inr, ◌∙◌}
 use Rattle.std.specs.Prelude.{slice_get, slice_set, option_map, if◌then◌else◌, ◌==◌, nat_lt, nat_le}
 use Rattle.std.proofs.lemmas.Bool.{le-leb, lt-leb}
 use Rattle.size_classes.specs.Sizes.{Geometry, chunk_pages, page_class_under}
@@ -31,6 +31,21 @@ moved_by n o = option_map (λ k. n + k) o
 pub unused_behind : (n : ℕ) (o : Option ℕ) → moved_by n (option_map (λ k. suc k) o) ≡ moved_by (n + 1) o
 unused_behind n None = refl
 unused_behind n (Some k) = ap Some (omega arith)
+
+-- ---- The first chunk that holds a run.
+
+or_else-assoc : {X : Type 0} (x y z : Option X) → or_else x (or_else y z) ≡ or_else (or_else x y) z
+or_else-assoc None y z = refl
+or_else-assoc (Some x) y z = refl
+
+pub holding_append : (g : Geometry) (a : Arena) (pages : ℕ) (cs ds : List ℕ) →
+    first_holding g a pages (cs ++ ds) ≡ or_else (first_holding g a pages cs) (first_holding g a pages ds)
+holding_append g a pages [] ds = refl
+holding_append g a pages (c ∷ cs) ds =
+    let here : Option (ℕ × ℕ) =
+    option_map (λ (run : Span). (c, run.0)) (chosen g pages (free_runs 0 (chunk_at a c))) in
+    ap (or_else here) (holding_append g a pages cs ds)
+    ∙ or_else-assoc here (first_holding g a pages cs) (first_holding g a pages ds)
 
 -- ---- A chunk that gave a run.
 

@@ -1,15 +1,11 @@
 -- An arena that gives an element.
-use Rattle.std.proofs.Common.{◌≡◌, ℕ, zero, suc, ◌+◌, ◌-◌, ◌*◌, ◌<◌, List, [], ◌∷◌, ◌++◌, length, lt-ltb, Option, Some, None, Bool, true, false, replicate, refl, sym, ap, subst, arith, eqb-true, eq-eqb, ◌∙◌}
-use Rattle.std.specs.Prelude.{slice_get, option_map, option_and_then, if◌then◌else◌, ◌==◌, nat_lt}
+use Rattle.std.proofs.Common.{◌≡◌, ℕ, zero, suc, ◌-◌, ◌*◌, ◌<◌, List, [], ◌∷◌, ◌++◌, length, lt-ltb, Option, Some, None, Bool, true, false, replicate, refl, sym, ap, subst, arith, eqb-true, eq-eqb, ◌∙◌}
+use Rattle.std.specs.Prelude.{slice_get, option_map, option_and_then, ◌==◌, nat_lt}
 use Rattle.size_classes.specs.Sizes.{Geometry, page_of, is_small, pages_of}
 use Rattle.size_classes.specs.Pages.{Run, Free, Used, pages_in, replaced, run_at}
 use Rattle.size_classes.specs.Elements.{Elements, new_elements, next_element}
-use Rattle.pool_law.specs.declared.id.RegionId.{RegionId}
-use Rattle.pool_law.specs.declared.note.Did.TheVariants.{Take}
-use Rattle.pool_law.specs.Same.{same_region}
 use Rattle.pool_law.specs.Chunks.{Chunk, Use, Whole, Sub}
-use Rattle.pool_law.specs.Arenas.{Arena, Spotted, chunk_at, elements_in, elements_at, with_front, front_of, take_run, take_element, take_class, region_of, as_noted, noted_taking, arena_step}
-use Rattle.pool_law.proofs.SameLemmas.{same_region-is}
+use Rattle.pool_law.specs.Arenas.{Arena, Spotted, chunk_at, elements_in, elements_at, with_front, front_of, take_run, take_element, take_class}
 use Rattle.object_steps.specs.Moves.{GivesSpot}
 use Rattle.object_steps.proofs.ArenaLemmas.{run_at-replaced}
 
@@ -114,40 +110,6 @@ module _ (g : Geometry) (a : Arena) (class : ℕ) where
           made ∙ (λ i. with_front (h.1 i) class ((place_is i, page_is i) ∷ front_of (h.1 i) class)) in
           subst (λ o. GivesSpot o a new r) (λ i. take_element g (mid_is i) class (place_is i, page_is i))
           (there (take_element g mid class (place, page)) refl element)
-
--- ---- A taking.
-
-module _ (g : Geometry) (number : ℕ) (a b : Arena) (class : ℕ) (region : RegionId) (place offset : ℕ)
-    (spot : GivesSpot (take_class g a class) a b (Some (place, offset))) where
-  -- the region of the next taking
-  abbrev next : RegionId
-  next = region_of number class region.owner (b.takings + 1) place offset
-
-  step-is : arena_step g number a (Take class region)
-      ≡ (if same_region region next then Some (record b { takings = b.takings + 1; out = b.out ++ next ∷ [] }) else
-      None)
-  step-is = go (take_class g a class) spot
-    where
-      go : (o : Option Spotted) → GivesSpot o a b (Some (place, offset)) →
-          as_noted region (option_map (noted_taking number class region.owner) o)
-          ≡ (if same_region region next then Some (record b { takings = b.takings + 1; out = b.out ++ next ∷ [] }) else
-          None)
-      go None h = absurd (cc h.0)
-      go (Some t) h =
-          let place_is : t.0 ≡ place = sym (ap (λ o. (spot_in o).0) h.0) in
-          let offset_is : t.1 ≡ offset = sym (ap (λ o. (spot_in o).1) h.0) in
-          let mid_is : t.2 ≡ b = sym h.1 in
-          λ i. as_noted region (Some (noted_taking number class region.owner (place_is i, offset_is i, mid_is i)))
-
-  pub noted-other : same_region region next ≡ false → arena_step g number a (Take class region) ≡ None
-  noted-other other = step-is ∙ rw other refl
-
-  pub noted : same_region region next ≡ true →
-      arena_step g number a (Take class region) ≡ Some
-      (record b { takings = region.taking; out = b.out ++ region ∷ [] })
-  noted same =
-      let is : region ≡ next = same_region-is region next same in
-      step-is ∙ rw same (λ i. Some (record b { takings = (sym is i).taking; out = b.out ++ (sym is i) ∷ [] }))
 
 -- ---- A normal class.
 

@@ -2,11 +2,13 @@
 
 ghost use Rattle.std.specs.Prelude.{◌≡◌, ◌≤◌, ◌^◌, [], ◌∷◌, ◌++◌, Some, None, replicate};
 ghost use Rattle.std.specs.Prelude.{slice_get, slice_set, IfOk, OnOk};
+ghost use Rattle.pool_law.specs.Caches.{if_so};
 ghost use Rattle.pool_law.specs.Arenas.{new_arena, chunk_at, front_of, with_front};
 ghost use Rattle.pool_law.specs.Arenas.{without_spot, is_alone};
 ghost use Rattle.pool_law.specs.Arenas.{arena_step, chunk_end, chunk_ends};
 
 mod gives;
+mod runs;
 mod takes;
 
 use crate::chunk::Chunk;
@@ -60,7 +62,7 @@ impl Arena {
 
     /// The arena of this number after a note, and none where the note may not stand.
     pub fn step(
-        self,
+        mut self,
         alloc: Global,
         sizes: &Sizes,
         number: u32,
@@ -68,11 +70,29 @@ impl Arena {
     ) -> Result<Option<Arena>, AllocError>
         ensures { IfOk result (λ next. next ≡ arena_step sizes.now number self did.now) }
     {
+        if self.noted(alloc, sizes, number, did)? {
+            Ok(Some(self))
+        } else {
+            Ok(None)
+        }
+    }
+
+    // Takes up a note. Answers whether it may stand.
+    fn noted(
+        &mut self,
+        alloc: Global,
+        sizes: &Sizes,
+        number: u32,
+        did: &Did,
+    ) -> Result<bool, AllocError>
+        ensures { IfOk result (λ stands. if_so stands self.new
+            ≡ arena_step sizes.now number self.old did.now) }
+    {
         match did {
             Did::Take { class, region } => self.taken(alloc, sizes, number, *class, region),
             Did::Full { class } => self.full(alloc, sizes, *class),
             Did::Give(region) => self.given(alloc, sizes, region),
-            _ => Ok(None),
+            _ => Ok(false),
         }
     }
 

@@ -1,26 +1,10 @@
 //! The six lists of an arena's chunks.
 
-ghost use Rattle.std.specs.Prelude.{◌≡◌, [], ◌∷◌, IfOk, OnOk, IfSome, IfNone};
-ghost use Rattle.pool_law.specs.ChunkLists.{
-  no_chunks,
-  entered,
-  without,
-  left,
-  has,
-  list_of,
-  walk,
-  greatest,
-  least,
-  lists_above,
-  lists_below,
-  risen,
-  sunk,
-  same_list,
-  moved_to,
-  settled_up,
-  down_to,
-  settled_down,
-};
+ghost use Rattle.std.specs.Prelude.{◌≡◌, ◌∷◌, OnOk};
+ghost use Rattle.pool_law.specs.ChunkLists.{no_chunks, entered, without, left, has, list_of, list_named};
+ghost use Rattle.pool_law.specs.ChunkLists.{same_list};
+
+pub(crate) mod settling;
 
 use pool_law::ListName;
 use std::alloc::{AllocError, Global};
@@ -88,16 +72,18 @@ impl Lists {
         }
     }
 
-    /// The chunks in the order in which they are asked for a run.
-    pub fn walk(&self, alloc: Global) -> Result<Vec<u32>, AllocError>
-        ensures { IfOk result (λ chunks. chunks.items ≡ walk self.now) }
+    /// The chunks of a list, from its head.
+    pub fn named(&self, name: ListName) -> &[u32]
+        ensures { result.now ≡ list_named self.now name }
     {
-        let mut chunks = Vec::from_slice(alloc, &self.q050)?;
-        chunks.extend_from_slice(&self.q025)?;
-        chunks.extend_from_slice(&self.q000)?;
-        chunks.extend_from_slice(&self.init)?;
-        chunks.extend_from_slice(&self.q075)?;
-        Ok(chunks)
+        match name {
+            ListName::QInit => &self.init,
+            ListName::Q000 => &self.q000,
+            ListName::Q025 => &self.q025,
+            ListName::Q050 => &self.q050,
+            ListName::Q075 => &self.q075,
+            ListName::Q100 => &self.q100,
+        }
     }
 
     /// A chunk enters a list at its head.
@@ -105,14 +91,13 @@ impl Lists {
         ensures { OnOk result (self.new ≡ entered self.old name chunk) }
     {
         match name {
-            ListName::QInit => self.init.insert(0, chunk)?,
-            ListName::Q000 => self.q000.insert(0, chunk)?,
-            ListName::Q025 => self.q025.insert(0, chunk)?,
-            ListName::Q050 => self.q050.insert(0, chunk)?,
-            ListName::Q075 => self.q075.insert(0, chunk)?,
-            ListName::Q100 => self.q100.insert(0, chunk)?,
+            ListName::QInit => put_first(&mut self.init, chunk),
+            ListName::Q000 => put_first(&mut self.q000, chunk),
+            ListName::Q025 => put_first(&mut self.q025, chunk),
+            ListName::Q050 => put_first(&mut self.q050, chunk),
+            ListName::Q075 => put_first(&mut self.q075, chunk),
+            ListName::Q100 => put_first(&mut self.q100, chunk),
         }
-        Ok(())
     }
 
     /// A chunk leaves the lists.
@@ -126,51 +111,6 @@ impl Lists {
         drop_from(&mut self.q075, chunk);
         drop_from(&mut self.q100, chunk);
     }
-
-    // A chunk goes to a list, and keeps its place if it is there already.
-    fn move_to(&mut self, chunk: u32, here: ListName, there: ListName) -> Result<(), AllocError>
-        ensures { OnOk result (self.new ≡ moved_to self.old chunk here there) }
-    {
-        if !same_list(here, there) {
-            self.leave(chunk);
-            self.enter(there, chunk)?;
-        }
-        Ok(())
-    }
-
-    /// The lists once a chunk gave a run and has this usage, which was in this list.
-    pub fn settle_up(
-        &mut self,
-        chunk: u32,
-        usage: u32,
-        here: Option<ListName>,
-    ) -> Result<(), AllocError>
-        ensures { OnOk result (self.new ≡ settled_up self.old chunk usage here) }
-    {
-        match here {
-            None => Ok(()),
-            Some(list) => self.move_to(chunk, list, up_from(list, usage)),
-        }
-    }
-
-    /// The lists once a run of a chunk was given back, which was in this list and goes to that.
-    pub fn settle_down(
-        &mut self,
-        chunk: u32,
-        here: Option<ListName>,
-        there: Option<ListName>,
-    ) -> Result<(), AllocError>
-        ensures { OnOk result (self.new ≡ settled_down self.old chunk here there) }
-    {
-        match (here, there) {
-            (None, _) => Ok(()),
-            (Some(_), None) => {
-                self.leave(chunk);
-                Ok(())
-            }
-            (Some(list), Some(next)) => self.move_to(chunk, list, next),
-        }
-    }
 }
 
 // Whether a number is among these.
@@ -178,6 +118,14 @@ fn has(chunks: &[u32], chunk: u32) -> bool
     ensures { result ≡ has chunk chunks.now }
 {
     chunks.iter().any(|x| *x == chunk)
+}
+
+// A list with a number before the others.
+fn put_first(chunks: &mut Vec<u32>, chunk: u32) -> Result<(), AllocError>
+    ensures { OnOk result (chunks.new.items ≡ chunk ∷ chunks.old.items) }
+{
+    chunks.insert(0, chunk)?;
+    Ok(())
 }
 
 // A list without a number.
@@ -192,101 +140,4 @@ pub fn same_list(a: ListName, b: ListName) -> bool
     ensures { result ≡ same_list a b }
 {
     a as u8 == b as u8
-}
-
-// From this usage on a chunk goes to the next list.
-fn greatest_of(list: ListName) -> u32
-    ensures { result ≡ greatest list }
-{
-    match list {
-        ListName::QInit => 25,
-        ListName::Q000 => 50,
-        ListName::Q025 => 75,
-        ListName::Q050 => 100,
-        ListName::Q075 => 100,
-        ListName::Q100 => 101,
-    }
-}
-
-// Below this usage a chunk goes to the list before.
-fn least_of(list: ListName) -> u32
-    ensures { result ≡ least list }
-{
-    match list {
-        ListName::QInit => 0,
-        ListName::Q000 => 1,
-        ListName::Q025 => 25,
-        ListName::Q050 => 50,
-        ListName::Q075 => 75,
-        ListName::Q100 => 100,
-    }
-}
-
-// The next list above.
-fn next_above(list: ListName) -> Option<ListName>
-    ensures some { IfSome result (λ next. lists_above list ≡ next ∷ lists_above next) }
-    ensures none { IfNone result (lists_above list ≡ []) }
-{
-    match list {
-        ListName::QInit => Some(ListName::Q000),
-        ListName::Q000 => Some(ListName::Q025),
-        ListName::Q025 => Some(ListName::Q050),
-        ListName::Q050 => Some(ListName::Q075),
-        ListName::Q075 => Some(ListName::Q100),
-        ListName::Q100 => None,
-    }
-}
-
-// The next list below. Below the second there is none.
-fn next_below(list: ListName) -> Option<ListName>
-    ensures some { IfSome result (λ next. lists_below list ≡ next ∷ lists_below next) }
-    ensures none { IfNone result (lists_below list ≡ []) }
-{
-    match list {
-        ListName::QInit => None,
-        ListName::Q000 => None,
-        ListName::Q025 => Some(ListName::Q000),
-        ListName::Q050 => Some(ListName::Q025),
-        ListName::Q075 => Some(ListName::Q050),
-        ListName::Q100 => Some(ListName::Q075),
-    }
-}
-
-// Where a chunk of this usage stops, going up.
-fn up_from(list: ListName, usage: u32) -> ListName
-    ensures { result ≡ risen usage list (lists_above list) }
-{
-    match next_above(list) {
-        None => list,
-        Some(next) => {
-            if greatest_of(list) <= usage {
-                up_from(next, usage)
-            } else {
-                list
-            }
-        }
-    }
-}
-
-// Where a chunk of this usage stops, going down.
-fn down_from(list: ListName, usage: u32) -> Option<ListName>
-    ensures { result ≡ sunk usage list (lists_below list) }
-{
-    if usage >= least_of(list) {
-        return Some(list);
-    }
-    match next_below(list) {
-        Some(next) => down_from(next, usage),
-        None => None,
-    }
-}
-
-/// Where a chunk of this usage is to go after a run of it was given back.
-pub fn down_to(usage: u32, here: Option<ListName>) -> Option<ListName>
-    ensures { result ≡ down_to usage here }
-{
-    match here {
-        None => None,
-        Some(list) => down_from(list, usage),
-    }
 }

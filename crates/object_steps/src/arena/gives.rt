@@ -4,6 +4,7 @@ ghost use Rattle.std.specs.Prelude.{◌≡◌, ◌<◌, ℕ, Some, is_some, not,
 ghost use Rattle.size_classes.specs.Pages.{run_at, run_start};
 ghost use Rattle.size_classes.specs.Elements.{Elements, with_back, is_full, is_idle};
 ghost use Rattle.pool_law.specs.declared.note.Did.{Did};
+ghost use Rattle.pool_law.specs.Caches.{if_so};
 ghost use Rattle.pool_law.specs.Same.{same_taking};
 ghost use Rattle.pool_law.specs.Arenas.{chunk_at, elements_in, elements_at, with_elements};
 ghost use Rattle.pool_law.specs.Arenas.{unless_gone, run_given, element_given, small_given};
@@ -12,24 +13,24 @@ ghost use Rattle.pool_law.specs.Arenas.{given_place, is_out_of, arena_step};
 use crate::arena::Arena;
 use crate::arena::takes::is_full_at;
 use crate::chunk::Chunk;
-use crate::lists::down_to;
+use crate::lists::settling::down_to;
 use crate::sizes::{Sizes, size_of};
 use pool_law::{ListName, RegionId};
 use std::alloc::{AllocError, Global};
 
 impl Arena {
-    /// The arena after a region was noted as given back, and none where it is not out.
+    /// Takes back the region that a note names as given back. Answers whether it was out.
     pub(crate) fn given(
-        mut self,
+        &mut self,
         alloc: Global,
         sizes: &Sizes,
         region: &RegionId,
-    ) -> Result<Option<Arena>, AllocError>
-        ensures { (number : ℕ) → IfOk result (λ next. next
-            ≡ arena_step sizes.now number self (Did.Give region.now)) }
+    ) -> Result<bool, AllocError>
+        ensures { (number : ℕ) → IfOk result (λ stands. if_so stands self.new
+            ≡ arena_step sizes.now number self.old (Did.Give region.now)) }
     {
         if !self.is_out(region) {
-            return Ok(None);
+            return Ok(false);
         }
         self.give_place(
             alloc,
@@ -39,7 +40,7 @@ impl Arena {
             region.place.offset,
         )?;
         self.forget(region);
-        Ok(Some(self))
+        Ok(true)
     }
 
     // Whether the taking is out.

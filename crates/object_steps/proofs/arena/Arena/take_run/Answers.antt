@@ -1,83 +1,34 @@
--- Each way in which a run is found, or none is.
-use Rattle.std.proofs.Common.{◌≡◌, ℕ, ◌≤◌, ◌<◌, ◌^◌, Some, None, arith, sym, ap, subst, ◌∙◌}
-use Rattle.size_classes.specs.Sizes.{chunk_pages}
+-- The run is taken of the chunk that was found or opened.
+use Rattle.std.proofs.Common.{Some, sym, ap, subst, ◌∙◌}
 use Rattle.size_classes.specs.Pages.{run_at}
-use Rattle.pool_law.specs.ChunkLists.{walk}
-use Rattle.pool_law.specs.Arenas.{first_holding, first_unused, chunk_at, with_run}
-use Rattle.object_steps.specs.Moves.{HasRoomAt}
+use Rattle.pool_law.specs.Arenas.{Arena, chunk_at, take_run, with_run}
+use Rattle.object_steps.specs.Moves.{HasRoomAt, GivesSpot}
 use Rattle.object_steps.specs.Runs.{use_of}
-use Rattle.object_steps.proofs.ArenaLemmas.{gives-held, gives-too_many, gives-opened, opened-room, room-same, capped-same, capped-more, run-begins}
+use Rattle.object_steps.proofs.ArenaLemmas.{run-begins}
 use Rattle.object_steps.proofs.arena.Arena.take_run.Goals as goal
 
-pub returns-in-Some-clause-spot : goal.returns-in-Some-clause-spot
-returns-in-Some-clause-spot c wanted capped =
-    let held : first_holding c.args.sizes.now c.args.self.now wanted (walk c.args.self.now.lists)
-    ≡ Some (c.in-Some.place, c.in-Some.page) =
-    sym (c.in_ok-place.ensures.spot wanted capped) ∙ c.in-Some.is in
-    let room : HasRoomAt c.args.self.now c.in-Some.place c.in-Some.page c.args.pages =
-    rw c.in-Some.is at c.in_ok-place.ensures.room in
-    let same : wanted ≡ c.args.pages = room-same c.args.self.now c.in-Some.place c.in-Some.page wanted c.args.pages room
-    capped in
-    gives-held c.args.sizes.now c.args.self.now wanted (use_of c.args.what) (c.in-Some.place, c.in-Some.page)
-    c.args.pages
-    c.give_run.new.self held same c.in_ok-give_run.ensures
+pub returns-in_default-clause-spot : goal.returns-in_default-clause-spot
+returns-in_default-clause-spot c wanted capped =
+    rw c.in_default.is at c.in_ok-place.ensures.spot wanted capped (use_of c.args.what)
 
-pub returns-in-Some-clause-begins : goal.returns-in-Some-clause-begins
-returns-in-Some-clause-begins c =
-    let room : HasRoomAt c.args.self.now c.in-Some.place c.in-Some.page c.args.pages =
-    rw c.in-Some.is at c.in_ok-place.ensures.room in
-    ap (λ a. run_at c.in-Some.page (chunk_at a c.in-Some.place)) c.in_ok-give_run.ensures
-    ∙ run-begins c.args.sizes.now c.args.self.now c.in-Some.place c.in-Some.page c.args.pages (use_of c.args.what) room
-
-pub returns-then-pages-chunk_pages-clause-spot : goal.returns-then-pages-chunk_pages-clause-spot
-returns-then-pages-chunk_pages-clause-spot c wanted capped =
-    let place : ℕ = c.in-Some-first_unused.place in
-    let held : first_holding c.args.sizes.now c.args.self.now wanted (walk c.args.self.now.lists) ≡ None =
-    sym (c.in_ok-place.ensures.spot wanted capped) ∙ c.in_default.is in
-    let unused : first_unused c.args.self.now.chunks ≡ Some place = sym c.in-Some-first_unused.ensures.place in
-    let more : chunk_pages c.args.sizes.now < wanted =
-    capped-more wanted c.args.pages (chunk_pages c.args.sizes.now) capped (omega arith)
-    (omega (arith, c.chunk_pages.ensures.pages, c.if-pages-chunk_pages.true)) in
-    gives-too_many c.args.sizes.now c.args.self.now wanted (use_of c.args.what) place held unused
-    c.in-Some-first_unused.ensures.within more
-
-pub give_run-requires-2 : goal.give_run-requires-2
-give_run-requires-2 c =
-    let place : ℕ = c.in-Some-first_unused.place in
-    let few : c.args.pages ≤ chunk_pages c.args.sizes.now =
-    omega (arith, c.chunk_pages.ensures.pages, c.if-pages-chunk_pages.false) in
-    let within : chunk_pages c.args.sizes.now ≤ 2 ^ 11 =
-    omega (arith, c.chunk_pages.ensures.pages, c.chunk_pages.ensures.within) in
-    subst (λ a. HasRoomAt a place 0 c.args.pages) (sym c.in_ok-open.ensures)
-    (opened-room c.args.sizes.now c.args.self.now place c.args.pages c.in-Some-first_unused.ensures.within c.requires
-    few within)
+pub give_run-requires : goal.give_run-requires
+give_run-requires c = rw c.in-Some.is at c.in_ok-place.ensures.room
 
 pub returns-clause-spot : goal.returns-clause-spot
 returns-clause-spot c wanted capped =
-    let place : ℕ = c.in-Some-first_unused.place in
-    let held : first_holding c.args.sizes.now c.args.self.now wanted (walk c.args.self.now.lists) ≡ None =
-    sym (c.in_ok-place.ensures.spot wanted capped) ∙ c.in_default.is in
-    let unused : first_unused c.args.self.now.chunks ≡ Some place = sym c.in-Some-first_unused.ensures.place in
-    let few : c.args.pages ≤ chunk_pages c.args.sizes.now =
-    omega (arith, c.chunk_pages.ensures.pages, c.if-pages-chunk_pages.false) in
-    let same : wanted ≡ c.args.pages = capped-same wanted c.args.pages capped
-    (omega (arith, few, c.chunk_pages.ensures.pages, c.chunk_pages.ensures.within)) in
-    gives-opened c.args.sizes.now c.args.self.now wanted (use_of c.args.what) place c.args.pages c.give_run-2.new.self
-    held unused
-    c.in-Some-first_unused.ensures.within same few
-    (c.in_ok-give_run-2.ensures ∙ ap (λ a. with_run c.args.sizes.now a place 0 c.args.pages (use_of c.args.what))
-    c.in_ok-open.ensures)
+    let g = c.args.sizes.now in
+    let what = use_of c.args.what in
+    let given : GivesSpot (take_run g c.args.self.now wanted what) c.args.self.now
+    (with_run g c.room_for.new.self c.in-Some.place c.in-Some.page c.args.pages what)
+    (Some (c.in-Some.place, c.in-Some.page)) =
+    rw c.in-Some.is at c.in_ok-place.ensures.spot wanted capped what in
+    subst (λ (a : Arena). GivesSpot (take_run g c.args.self.now wanted what) c.args.self.now a
+    (Some (c.in-Some.place, c.in-Some.page))) (sym c.in_ok-give_run.ensures) given
 
 pub returns-clause-begins : goal.returns-clause-begins
 returns-clause-begins c =
-    let place : ℕ = c.in-Some-first_unused.place in
-    let few : c.args.pages ≤ chunk_pages c.args.sizes.now =
-    omega (arith, c.chunk_pages.ensures.pages, c.if-pages-chunk_pages.false) in
-    let within : chunk_pages c.args.sizes.now ≤ 2 ^ 11 =
-    omega (arith, c.chunk_pages.ensures.pages, c.chunk_pages.ensures.within) in
-    let room : HasRoomAt c.open.new.self place 0 c.args.pages =
-    subst (λ a. HasRoomAt a place 0 c.args.pages) (sym c.in_ok-open.ensures)
-    (opened-room c.args.sizes.now c.args.self.now place c.args.pages c.in-Some-first_unused.ensures.within c.requires
-    few within) in
-    ap (λ a. run_at 0 (chunk_at a place)) c.in_ok-give_run-2.ensures
-    ∙ run-begins c.args.sizes.now c.open.new.self place 0 c.args.pages (use_of c.args.what) room
+    let room : HasRoomAt c.room_for.new.self c.in-Some.place c.in-Some.page c.args.pages =
+    rw c.in-Some.is at c.in_ok-place.ensures.room in
+    ap (λ a. run_at c.in-Some.page (chunk_at a c.in-Some.place)) c.in_ok-give_run.ensures
+    ∙ run-begins c.args.sizes.now c.room_for.new.self c.in-Some.place c.in-Some.page c.args.pages
+    (use_of c.args.what) room

@@ -1,6 +1,6 @@
 use Rattle.std.proofs.Common.{length}
 use Rattle.object_steps.proofs.ChunkLemmas.{Merges}
-use Rattle.object_steps.proofs.chunk.merge.Given as goal
+use Rattle.object_steps.proofs.chunk.changing.merge.Given as goal
 
 abbrev pub invariant-loop-run : goal.invariant-loop-run
 invariant-loop-run l = Merges l.fn.runs.items l.left.items l.new.items

@@ -1,5 +1,5 @@
 -- What holds of each number holds of this one.
-use Rattle.object_steps.proofs.arena.Arena.step.Goals as goal
+use Rattle.object_steps.proofs.arena.Arena.noted.Goals as goal
 
 pub returns-in-Give : goal.returns-in-Give
 returns-in-Give c = rw c.in-Give.is (c.given.ensures c.args.number)

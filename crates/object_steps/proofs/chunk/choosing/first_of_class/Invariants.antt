@@ -1,7 +1,7 @@
 use Rattle.std.proofs.Common.{◌≡◌, drop}
 use Rattle.std.specs.Prelude.{◌==◌, ◌&&◌, nat_le, find}
 use Rattle.size_classes.specs.Sizes.{page_class_under}
-use Rattle.object_steps.proofs.chunk.first_of_class.Given as goal
+use Rattle.object_steps.proofs.chunk.choosing.first_of_class.Given as goal
 
 abbrev pub invariant-loop-run : goal.invariant-loop-run
 invariant-loop-run l =

@@ -2,7 +2,7 @@
 use Rattle.std.proofs.Common.{◌++◌, [], ◌∷◌, sym, subst}
 use Rattle.size_classes.specs.Pages.{joined}
 use Rattle.object_steps.proofs.ChunkLemmas.{Merges, merges-none, merges-more}
-use Rattle.object_steps.proofs.chunk.merge.Goals as goal
+use Rattle.object_steps.proofs.chunk.changing.merge.Goals as goal
 
 pub loop-run-init : goal.loop-run-init
 loop-run-init c = rw c.new-new.ensures.items (merges-none c.args.runs.items c.requires)
