@@ -134,26 +134,32 @@ impl Worker {
             self.finish(frame)?;
             return Ok(Stepped::Went);
         }
-        Ok(self.hash_next(rt, shop, frame))
+        self.hash_next(rt, shop, frame)
     }
 
-    // Hashes the next slice of a frame, if it came.
-    fn hash_next<W: Wait>(&mut self, rt: &W, shop: &Shop, frame: Hashing) -> Stepped
+    // Hashes the next slice of a frame, if it came, and tells of the frame behind the last.
+    fn hash_next<W: Wait>(
+        &mut self,
+        rt: &W,
+        shop: &Shop,
+        frame: Hashing,
+    ) -> Result<Stepped, AllocError>
         requires stands { WorkerStands shop.now (at_work self.old (Work.Frame frame)) }
+        requires idle { self.old.work ≡ Work.Idle }
         requires left { 0 < frame.left }
         ensures stands { WorkerStands shop.now self.new }
         ensures same { SameWorker self.old self.new }
-        ensures more { result ≢ Stepped.Finished }
+        ensures more { result ≢ Ok Stepped.Finished }
     {
         if self.turns < HASH_TURNS {
             self.work = Work::Frame(frame);
-            return Stepped::Waiting;
+            return Ok(Stepped::Waiting);
         }
         let parcel = match shop.pool.fetch(rt, &mut self.seat, self.cutter) {
             Fetched::Got(_number, parcel) => parcel,
             Fetched::Empty => {
                 self.work = Work::Frame(frame);
-                return Stepped::Waiting;
+                return Ok(Stepped::Waiting);
             }
         };
         let Hashing {
@@ -164,13 +170,18 @@ impl Worker {
         } = frame;
         let (hasher, more) = hash_parcel(rt, shop.pool, &mut self.seat, parcel, hasher);
         self.turns -= HASH_TURNS;
-        self.work = Work::Frame(Hashing {
+        let frame = Hashing {
             hasher,
             number,
             len: len + u64::from(more),
             left: left - 1,
-        });
-        Stepped::Went
+        };
+        if frame.left > 0 {
+            self.work = Work::Frame(frame);
+            return Ok(Stepped::Went);
+        }
+        self.finish(frame)?;
+        Ok(Stepped::Went)
     }
 
     // Tells of a frame that is hashed.
