@@ -6,7 +6,7 @@ ghost use Rattle.frame_hash.specs.Standing.{IsBegun, SameWorker, WorkerCame, Wor
 use crate::hashes::{FrameHash, HashOf};
 use crate::hashing::hash_parcel;
 use crate::shop::Shop;
-use crate::turns::HASH_TURNS;
+use crate::turns::{HASH_TURNS, ROUND_TURNS};
 use job_queue::{Job, JobEnd, pop};
 use sha2::{Digest, Sha256};
 use shared_pool::{Fetched, PoolSeat};
@@ -134,26 +134,32 @@ impl Worker {
             self.finish(frame)?;
             return Ok(Stepped::Went);
         }
-        Ok(self.hash_next(rt, shop, frame))
+        self.hash_next(rt, shop, frame)
     }
 
-    // Hashes the next slice of a frame, if it came.
-    fn hash_next<W: Wait>(&mut self, rt: &W, shop: &Shop, frame: Hashing) -> Stepped
+    // Hashes the next slice of a frame, if it came, and tells of the frame behind the last.
+    fn hash_next<W: Wait>(
+        &mut self,
+        rt: &W,
+        shop: &Shop,
+        frame: Hashing,
+    ) -> Result<Stepped, AllocError>
         requires stands { WorkerStands shop.now (at_work self.old (Work.Frame frame)) }
+        requires idle { self.old.work ≡ Work.Idle }
         requires left { 0 < frame.left }
         ensures stands { WorkerStands shop.now self.new }
         ensures same { SameWorker self.old self.new }
-        ensures more { result ≢ Stepped.Finished }
+        ensures more { result ≢ Ok Stepped.Finished }
     {
         if self.turns < HASH_TURNS {
             self.work = Work::Frame(frame);
-            return Stepped::Waiting;
+            return Ok(Stepped::Waiting);
         }
         let parcel = match shop.pool.fetch(rt, &mut self.seat, self.cutter) {
             Fetched::Got(_number, parcel) => parcel,
             Fetched::Empty => {
                 self.work = Work::Frame(frame);
-                return Stepped::Waiting;
+                return Ok(Stepped::Waiting);
             }
         };
         let Hashing {
@@ -164,13 +170,30 @@ impl Worker {
         } = frame;
         let (hasher, more) = hash_parcel(rt, shop.pool, &mut self.seat, parcel, hasher);
         self.turns -= HASH_TURNS;
-        self.work = Work::Frame(Hashing {
+        let frame = Hashing {
             hasher,
             number,
             len: len + u64::from(more),
             left: left - 1,
-        });
-        Stepped::Went
+        };
+        if frame.left > 0 {
+            self.work = Work::Frame(frame);
+            return Ok(self.end_of_step());
+        }
+        self.finish(frame)?;
+        Ok(self.end_of_step())
+    }
+
+    // What the step of a slice did. Once in a round it is told as Pending, so that a thread that has
+    // a machine of its own comes back to that, however many frames are handed to this worker.
+    fn end_of_step(&self) -> Stepped
+        ensures { result ≢ Stepped.Finished }
+    {
+        if self.turns % ROUND_TURNS < HASH_TURNS {
+            Stepped::Pending
+        } else {
+            Stepped::Went
+        }
     }
 
     // Tells of a frame that is hashed.
