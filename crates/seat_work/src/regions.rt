@@ -4,14 +4,14 @@
 ghost use Rattle.std.specs.Prelude.{◌≡◌, ◌<◌, None, Some, IfSome, option_map};
 ghost use Rattle.size_classes.specs.Sizes.{class_count};
 ghost use Rattle.pool_law.specs.Limits.{geometry_of, cached_classes};
-ghost use Rattle.pool_law.specs.Patterns.{ask_arena, ask_cache, give_back, offer, put_away as puts_away};
+ghost use Rattle.pool_law.specs.Patterns.{ask_arena, ask_cache, give_back, put_away as puts_away};
 ghost use Rattle.shared_pool.specs.SeatLanes.{lane_of};
 ghost use Rattle.shared_pool.specs.SeatViews.{view_of};
 ghost use Rattle.seat_work.specs.Hands.{IsRegion};
 ghost use Rattle.seat_work.specs.Changes.{no_change};
-ghost use Rattle.seat_work.specs.Readings.{NotesAs, NotesOn};
+ghost use Rattle.seat_work.specs.Readings.{NotesAs};
 ghost use Rattle.seat_work.specs.Works.{IsLater, Proceeds, Works};
-ghost use Rattle.seat_work.specs.Answers.{hand_with, offers_on, region_told};
+ghost use Rattle.seat_work.specs.Answers.{hand_with, region_told};
 
 use handle_bin::Handle;
 use pool_law::Region;
@@ -93,35 +93,10 @@ pub(crate) fn put_back<W: Wait>(
         give_region(rt, pool, seat, beside, region);
         return;
     }
-    match put_region(pool, seat, beside, region) {
-        Some(region) => give_region(rt, pool, seat, beside, region),
-        None => (),
-    }
-}
-
-// The region goes into its owner's cache, or comes back.
-#[inline(always)]
-fn put_region(
-    pool: &SharedPool,
-    seat: &mut PoolSeat,
-    beside: Option<&Handle>,
-    region: Region,
-) -> Option<Region>
-    requires works { let place = option_map (λ h. h.now.place) beside in
-        Works pool.now (hand_with place (Some region)) 1 0 seat.old }
-    requires region { IsRegion pool.now seat.old region }
-    requires class { region.id.class < cached_classes }
-    ensures proceeds { let place = option_map (λ h. h.now.place) beside.entry in
-        Proceeds pool.now (hand_with place result) 1 0 no_change seat.old seat.new }
-    ensures region { IfSome result (IsRegion pool.now seat.new) }
-    ensures later { IsLater pool.now seat.old seat.new }
-    ensures reads { NotesOn (offer region.id) (offers_on result)
-        (view_of seat.old) (view_of seat.new) }
-{
     match pool.put_cached(seat, region) {
-        Went::Did(_number, Put::Kept) => None,
-        Went::Did(_number, Put::Back(region, _no)) => Some(region),
-        Went::Held(_held, region) => Some(region),
+        Went::Did(_number, Put::Kept) => (),
+        Went::Did(_number, Put::Back(region, _no)) => give_region(rt, pool, seat, beside, region),
+        Went::Held(_held, region) => give_region(rt, pool, seat, beside, region),
     }
 }
 
