@@ -1,5 +1,5 @@
 -- Notes that are played one after another are in one order.
-use Rattle.std.proofs.Common.{⊎_elim, inl, ◌≡◌, ◌≢◌, ℕ, zero, suc, ◌+◌, ◌≤◌, ◌<◌, true, false, List, [], ◌∷◌, ◌++◌, length, set, take, get_or, Some, refl, sym, ap, subst, arith, ◌∙◌, eq-eqb, append-nil}
+use Rattle.std.proofs.Common.{⊎_elim, inl, ◌≡◌, ◌≢◌, ℕ, zero, suc, ◌+◌, ◌*◌, ◌≤◌, ◌<◌, true, false, List, [], ◌∷◌, ◌++◌, length, length-append, set, take, get_or, Option, Some, None, refl, sym, ap, subst, arith, ◌∙◌, eq-eqb, append-nil}
 use Rattle.std.specs.Prelude.{◌==◌, if◌then◌else◌, slice_get}
 use Rattle.std.proofs.lemmas.Bool.{cases_eq, ne_eqb}
 use Rattle.std.proofs.lemmas.List.{length-set, take_all, take_more, get_or-set_same, get_or-set_other}
@@ -14,11 +14,11 @@ use Rattle.run_order.proofs.Tests.{note_fits-is, Fits-tests}
 use Rattle.run_order.proofs.Turns.{notes-append}
 use Rattle.topo_order.proofs.Lists.{pushed}
 use Rattle.log_order.specs.Playing.{AllStand, step_by, step_at, steps_at, InOrder, AllFit, ArePlayed, IsSoFar, IsHeld, IsNext, IsOver, left_in}
-use Rattle.log_order.specs.Tallying.{Key, AreCounted, count_in, counted, fits_in}
+use Rattle.log_order.specs.Tallying.{Key, AreAtMost, AreCounted, count_in, counted, fits_in}
 use Rattle.log_order.specs.declared.playing.Play.{Play}
 use Rattle.log_order.specs.declared.spots.Spot.{Spot}
 use Rattle.log_order.specs.declared.tally.Tally.{Tally}
-use Rattle.log_order.proofs.TallyLemmas.{counts, counted-more, fits-in}
+use Rattle.log_order.proofs.TallyLemmas.{counts, counted-few, counted-more, fits-in}
 
 -- the steps of one place more
 pub steps-more : (logs : Logs) (spots : List Spot) (s : Spot)
@@ -108,6 +108,29 @@ module _ (logs : Logs) (next : List ℕ) (steps : List Step) (s : Spot) (n : Not
           ∙ append-nil (notes_by lane steps)
           ∙ p.whole lane
           ∙ ap (λ k. take k (of_lane logs lane)) (sym (get_or-set_other next s.lane lane (s.at + 1) 0 differs))
+
+-- ---- How many were counted.
+
+step-few : (lane : ℕ) (o : Option Note) → length (step_by lane o) ≤ 1
+step-few lane None = omega arith
+step-few lane (Some note) = omega arith
+
+steps-few : (logs : Logs) (spots : List Spot) → length (steps_at logs spots) ≤ length spots
+steps-few logs [] = omega arith
+steps-few logs (s ∷ spots) =
+    let here = step-few s.lane (slice_get (of_lane logs s.lane) s.at) in
+    let rest = steps-few logs spots in
+    let both = length-append (step_at logs s) (steps_at logs spots) in
+    omega (arith, here, rest, both)
+
+-- what was counted of so many notes
+pub tally-few : (logs : Logs) (play : Play) (n : ℕ) → IsSoFar logs play → length play.order.items < n
+    → AreAtMost (2 * n) play.tally
+tally-few logs play n so few key =
+    let is = so.counted key in
+    let counts = counted-few key (steps_at logs play.order.items) in
+    let steps = steps-few logs play.order.items in
+    omega (arith, is, counts, steps, few)
 
 -- one note more was played
 pub so-far-more : (logs : Logs) (old new : Play) (s : Spot) (n : Note) → IsSoFar logs old

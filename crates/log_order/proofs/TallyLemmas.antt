@@ -1,5 +1,5 @@
 -- What the program counts is what the steps are.
-use Rattle.std.proofs.Common.{◌≡◌, ℕ, ◌+◌, ◌<◌, Bool, false, List, [], ◌∷◌, ◌++◌, Some, refl, sym, ap, arith, ◌∙◌}
+use Rattle.std.proofs.Common.{◌≡◌, ℕ, ◌+◌, ◌*◌, ◌<◌, ◌≤◌, Bool, true, false, List, [], ◌∷◌, ◌++◌, length, Option, Some, None, refl, sym, ap, arith, ◌∙◌}
 use Rattle.std.specs.Prelude.{◌==◌, ◌&&◌, ◌||◌, nat_lt, nat_le, if◌then◌else◌}
 use Rattle.std.proofs.lemmas.Bool.{ne_eqb}
 use Rattle.std.proofs.Math.Bool.{and-false, and-true}
@@ -20,7 +20,7 @@ use Rattle.run_order.specs.Order.{Step, made, is_at, is_alike, is_post, is_sent,
 use Rattle.run_order.proofs.Fronts.{by-test}
 use Rattle.run_order.proofs.Positions.{made-alike}
 use Rattle.run_order.proofs.Tests.{gains, losses, count_fits, finds_its, note_fits}
-use Rattle.log_order.specs.Tallying.{Key, way_of, way_key, root_key, place_key, born_kind, retain_kind, release_kind, end_kind, vacated_kind, born_at_kind, vacated_at_kind, note_key, note_key_beside, one_at, counted, count_in, AreCounted, at_in, alike_in, finds_in, gained_in, lost_in, ref_fits_in, fits_in}
+use Rattle.log_order.specs.Tallying.{Key, way_of, way_key, root_key, place_key, born_kind, retain_kind, release_kind, end_kind, vacated_kind, born_at_kind, vacated_at_kind, note_key, note_key_beside, one_at, same_key, counted, count_in, AreCounted, at_in, alike_in, finds_in, gained_in, lost_in, ref_fits_in, fits_in}
 use Rattle.log_order.specs.declared.tally.Tally.{Tally}
 use Rattle.log_order.proofs.KeyLemmas.{same-keys}
 
@@ -33,6 +33,24 @@ pub counted-more : (key : Key) (steps : List Step) (x : Step)
     → counted key (steps ++ x ∷ []) ≡ counted key steps + counts key x.note
 counted-more key [] x = omega arith
 counted-more key (y ∷ steps) x = omega (arith, counted-more key steps x)
+
+one-or-none : (b : Bool) → one_if b ≤ 1
+one-or-none true = omega arith
+one-or-none false = omega arith
+
+-- one note or none is counted under a key
+pub at-most-one : (key : Key) (o : Option Key) → one_at key o ≤ 1
+at-most-one key None = omega arith
+at-most-one key (Some other) = one-or-none (same_key other key)
+
+-- each note is counted under a key at most twice
+pub counted-few : (key : Key) (steps : List Step) → counted key steps ≤ 2 * length steps
+counted-few key [] = omega arith
+counted-few key (x ∷ steps) =
+    let first = at-most-one key (note_key x.note) in
+    let second = at-most-one key (note_key_beside x.note) in
+    let rest = counted-few key steps in
+    omega (arith, first, second, rest)
 
 -- what passes a test is counted under a key
 made-is : (test : Note → Bool) (key : Key) → ((n : Note) → one_if (test n) ≡ counts key n) → (steps : List Step)

@@ -1,5 +1,5 @@
 -- How many steps of each kind were made, as the program keeps it.
-use Rattle.std.specs.Prelude.{◌≡◌, ℕ, ◌+◌, ◌==◌, ◌&&◌, nat_lt, nat_le, if◌then◌else◌, Bool, true, List, [], ◌∷◌, Option, Some, None, unwrap_or}
+use Rattle.std.specs.Prelude.{◌≡◌, ℕ, ◌+◌, ◌≤◌, ◌==◌, ◌&&◌, nat_lt, nat_le, if◌then◌else◌, Bool, true, List, [], ◌∷◌, Option, Some, None, unwrap_or}
 use Rattle.std.specs.declared.cmp.Ordering.{Ordering}
 use Rattle.std.specs.Ordering.{nat_cmp, ordering_then}
 use Rattle.std.specs.BTreeMap.{get}
@@ -116,6 +116,10 @@ counted key (x ∷ xs) = one_at key (note_key x.note) + one_at key (note_key_bes
 -- how many the program has counted under a key
 abbrev pub count_in : Tally → Key → ℕ
 count_in tally key = unwrap_or (get key_cmp tally.map key) 0
+
+-- at most so many were counted under any key
+abbrev pub AreAtMost : ℕ → Tally → Type 0
+AreAtMost n tally = (key : Key) → count_in tally key ≤ n
 
 -- these steps were counted
 abbrev pub AreCounted : Tally → List Step → Type 0

@@ -103,7 +103,7 @@ impl Play {
         let RefDid::Look(found) = did else {
             return None;
         };
-        self.tally.has_less(root, *found as u64)
+        self.tally.has_less(root, *found)
     }
 
     // Whether a step on a count is one that no lane's next look speaks against.
@@ -155,7 +155,9 @@ impl Play {
         if !self.may_go(logs, note, eager) {
             return Ok(false);
         }
-        if !self.tally.fits(note)? {
+        // No list is so long that a count of its places could run over.
+        prove!(self.order.len() < usize::MAX);
+        if !self.tally.fits(note) {
             return Ok(false);
         }
         if self.must_wait(graph, &spot) {

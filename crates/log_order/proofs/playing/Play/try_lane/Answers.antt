@@ -5,18 +5,28 @@ use Rattle.log_order.specs.Spots.{notes_in}
 use Rattle.log_order.specs.declared.playing.Play.{Play}
 use Rattle.log_order.specs.declared.spots.Spot.{Spot}
 use Rattle.log_order.proofs.SpotLemmas.{as-many}
-use Rattle.log_order.proofs.PlayLemmas.{held-unfit, lane-moved}
+use Rattle.log_order.proofs.PlayLemmas.{held-unfit, lane-moved, tally-few}
 use Rattle.log_order.proofs.playing.Play.try_lane.Goals as goal
 
-pub returns-then-not-branch : goal.returns-then-not-branch
-returns-then-not-branch c = (
+pub fits-requires : goal.fits-requires
+fits-requires c key =
+    let few = tally-few (notes_in c.args.logs.now) c.args.self.now (2 ^ 64) c.requires.so_far (search rules) key in
+    omega (arith, few)
+
+pub pass-requires : goal.pass-requires
+pass-requires c key =
+    let few = tally-few (notes_in c.args.logs.now) c.args.self.now (2 ^ 64) c.requires.so_far (search rules) key in
+    omega (arith, few)
+
+pub returns-then-not-fits : goal.returns-then-not-fits
+returns-then-not-fits c = (
   c.requires.so_far,
   record {
     next = refl;
     order = refl;
     holds = λ any. held-unfit (notes_in c.args.logs.now) c.args.self.now c.next_spot-spot.result c.args.lane
         c.in-Some.note.now c.requires.so_far c.next_spot-spot.ensures c.in-Some.ensures.stands
-        (sym c.in_ok-fits.ensures ∙ c.if-not-branch.true);
+        (sym c.fits.ensures ∙ c.if-not-fits.true);
   },
 )
 
@@ -47,4 +57,4 @@ returns c =
     c.index_mut.ensures.value in
     lane-moved (notes_in c.args.logs.now) old new c.next_spot-spot.result c.args.lane c.index_mut.result.now
     c.in-Some.note.now c.requires.so_far c.next_spot-spot.ensures low c.in-Some.ensures.stands
-    (sym c.in_ok-fits.ensures ∙ c.if-not-branch.false) read refl c.in_ok-push.ensures.items c.in_ok-pass.ensures
+    (sym c.fits.ensures ∙ c.if-not-fits.false) read refl c.in_ok-push.ensures.items c.in_ok-pass.ensures

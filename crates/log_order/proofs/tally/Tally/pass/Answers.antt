@@ -1,7 +1,15 @@
 use Rattle.std.proofs.Common.{◌≡◌, ◌+◌, ap, ◌∙◌, arith}
 use Rattle.std.proofs.lemmas.Result.{on_ok_weaker}
 use Rattle.log_order.specs.Tallying.{one_at, note_key, count_in}
+use Rattle.log_order.proofs.TallyLemmas.{at-most-one}
 use Rattle.log_order.proofs.tally.Tally.pass.Goals as goal
+
+pub add-requires-2 : goal.add-requires-2
+add-requires-2 c key =
+    let more = c.in_ok-add.ensures key in
+    let one = at-most-one key c.note_key.result in
+    let few = c.requires key in
+    omega (arith, more, one, few)
 
 pub returns : goal.returns
 returns c key =
