@@ -1,3 +1,4 @@
 pub mod Named
 pub mod Lones
 mod Worked
+mod Growing

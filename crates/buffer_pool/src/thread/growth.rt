@@ -1,12 +1,13 @@
 //! How buffers get longer.
 
-ghost use Rattle.std.specs.Prelude.{◌≡◌, ◌≤◌, IfErr, IfOk, IsTrue, MatchResult, None, OnErr, OnOk, Some};
+ghost use Rattle.std.specs.Prelude.{◌≡◌, ◌≤◌, IfErr, IfOk, IsTrue, MatchResult, None, Ok, OnErr, OnOk, Some};
 ghost use Rattle.pool_law.specs.Limits.{geometry_of};
 ghost use Rattle.pool_law.specs.Views.{reaching, LiesIn};
 ghost use Rattle.seat_work.specs.Changes.{no_change};
 ghost use Rattle.seat_work.specs.Regrowths.{IsTold};
 ghost use Rattle.pool_member.specs.Alone.{GrowsAlone};
 ghost use Rattle.pool_member.specs.declared.answers.CapacityNo.TheVariants.{Full};
+ghost use Rattle.pool_member.specs.Growing.{IsGrown, IsTryUngrown, IsUngrown};
 ghost use Rattle.pool_member.specs.Growths.{IsTriedBy, LeavesAsked};
 ghost use Rattle.pool_member.specs.Refusals.{is_here};
 ghost use Rattle.pool_member.specs.Regrowths.{capacity_no, IsRefusedBy, LeavesThread};
@@ -56,6 +57,9 @@ impl<B: PoolName> PoolThread<B> {
         ensures settled { MatchResult result (λ _. IsSettled self.new)
             (λ no. no ≡ Full → IsSettled self.new) }
         ensures stays { IsSettled self.old → IsSettled self.new }
+        ensures notes { let root = buffer.old.at.root in MatchResult result
+            (λ bytes. IsGrown pool.now root size (Ok bytes) self.old self.new)
+            (λ no. IsUngrown pool.now root size no self.old self.new) }
         ensures refused { IfErr result
             (LeavesThread buffer.old.at.root self.old self.new) }
         ensures unchanged { OnErr result (buffer.new ≡ buffer.old) }
@@ -101,6 +105,9 @@ impl<B: PoolName> PoolThread<B> {
         ensures alone { GrowsAlone buffer.old.at.root self.old self.new }
         ensures here { OnOk result (IsTrue (is_here self.new.account buffer.new)) }
         ensures moves { self.new.account.moves ≡ self.old.account.moves }
+        ensures notes { let root = buffer.old.at.root in MatchResult result
+            (λ bytes. IsGrown pool.now root size (Ok bytes) self.old self.new)
+            (λ no. IsTryUngrown pool.now root size no self.old self.new) }
         ensures left { IfErr result
             (LeavesAsked pool.now buffer.old.at.root self.old self.new) }
         ensures unchanged { OnErr result (buffer.new ≡ buffer.old) }

@@ -3,6 +3,7 @@
 ghost use Rattle.std.specs.Prelude.{◌≡◌, ◌-◌, ◌<◌, IfErr, None, OnErr, OnOk};
 ghost use Rattle.pool_law.specs.Limits.{cached_classes};
 ghost use Rattle.seat_work.specs.Changes.{no_change};
+ghost use Rattle.seat_tries.specs.Taking.{taken};
 ghost use Rattle.pool_member.specs.Threads.{HasChanged, IsSettled};
 ghost use Rattle.pool_member.specs.Trims.{AreEmpty, HasPaid, MayStop};
 
@@ -15,11 +16,12 @@ use std::sync::Wait;
 
 impl<B: PoolName> PoolThread<B> {
     /// Gives the memory that this thread's caches keep for its next buffers back to the arenas,
-    /// where other threads may have it. Each cache was found empty by a step of this call, with
-    /// nothing in the thread's hands. It takes at most 2 turns for each region that goes back, 2 for
-    /// each of the 40 caches, and 2 for each time that another thread is in one of them: then that
-    /// step is made again. All buffers, counts and moves stay as they are. For want of turns some of
-    /// it may have gone back. (Netty: `PooledByteBufAllocator.trimCurrentThreadCache`)
+    /// where other threads may have it, and takes none from them. Each cache was found empty by a
+    /// step of this call, with nothing in the thread's hands. It takes at most 2 turns for each
+    /// region that goes back, 2 for each of the 40 caches, and 2 for each time that another thread
+    /// is in one of them: then that step is made again. All buffers, counts and moves stay as they
+    /// are. For want of turns some of it may have gone back. (Netty:
+    /// `PooledByteBufAllocator.trimCurrentThreadCache`)
     pub fn trim<W: Wait>(&mut self, rt: &W, pool: &Pool<B>) -> Result<(), TrimNo>
         ensures emptied { OnOk result
             (AreEmpty pool.now cached_classes self.old.seat self.new.seat) }
@@ -27,6 +29,7 @@ impl<B: PoolName> PoolThread<B> {
         ensures changed { HasChanged (self.old.account.turns - self.new.account.turns) no_change
             None self.old self.new }
         ensures moves { self.new.account.moves ≡ self.old.account.moves }
+        ensures took { taken self.new.seat ≡ taken self.old.seat }
         ensures paid { HasPaid cached_classes self.old self.new }
         ensures spent { OnErr result (self.new.account.turns < 2) }
     {
@@ -43,6 +46,7 @@ impl<B: PoolName> PoolThread<B> {
         ensures changed { HasChanged (self.old.account.turns - self.new.account.turns) no_change
             None self.old self.new }
         ensures moves { self.new.account.moves ≡ self.old.account.moves }
+        ensures took { taken self.new.seat ≡ taken self.old.seat }
         ensures paid { HasPaid cached_classes self.old self.new }
         ensures cause { IfErr result (MayStop pool.now self.old self.new) }
     {
