@@ -1,5 +1,5 @@
 -- How the program knows what lines say of roots and regions. No public clause cites this module.
-use Rattle.std.specs.Prelude.{◌≡◌, ℕ, ◌<◌, Bool, true, false, List, Option, Some, None}
+use Rattle.std.specs.Prelude.{◌≡◌, ℕ, ◌<◌, ◌^◌, Bool, true, false, List, ◌∷◌, Option, Some, None, codes, decimal}
 use Rattle.std.specs.Option.{MatchOption, option_map}
 use Rattle.std.specs.declared.cmp.Ordering.{Ordering}
 use Rattle.std.specs.Ordering.{nat_cmp, ordering_then}
@@ -10,9 +10,10 @@ use Rattle.pool_law.specs.declared.id.RootId.{RootId}
 use Rattle.pool_law.specs.declared.note.Did.{Did}
 use Rattle.pool_law.specs.declared.note.Note.{Note}
 use Rattle.pool_law.specs.declared.note.Object.{Object}
+use Rattle.pool_law.specs.Text.{Text, note_words, spaced}
 use Rattle.size_classes.specs.Sizes.{class_count}
 use Rattle.run_text.specs.Lines.{Line, all_classes, begun, born, formed, in_hand, last_begun, last_born, last_taken, last_use, same_key, taken, taking_key}
-use Rattle.run_text.specs.Told.{note_told, use_told}
+use Rattle.run_text.specs.Told.{FitsNote, note_told, use_told}
 use Rattle.run_text.specs.declared.known.Known.{Known}
 use Rattle.run_text.specs.declared.known.Use.{Use}
 use Rattle.run_text.specs.declared.filling.Filler.{Filler}
@@ -107,3 +108,11 @@ line_told line = (line.0, note_told line.1)
 -- the line of a note tells what it says of roots and regions
 abbrev pub Tells : Line → Type 0
 Tells line = TellsTaking line.0 line.1 × TellsUse line.1
+
+-- the text of the line of a note, with its lane
+abbrev pub line_text : Line → Text
+line_text line = spaced (codes "note" ∷ decimal line.0 ∷ note_words line.1)
+
+-- the numbers that are told are of their types
+abbrev pub FitsLine : Line → Type 0
+FitsLine line = (line.0 < 2 ^ 32) × FitsNote line.1

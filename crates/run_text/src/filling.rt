@@ -2,15 +2,15 @@
 
 ghost use Rattle.std.specs.Prelude.{◌≡◌, ◌++◌, ◌∷◌, ◌<◌, [], ℕ, List, Option, Ok, Some, IfOk, OnOk, map, false};
 ghost use Rattle.std.specs.Option.{option_map};
-ghost use Rattle.pool_law.specs.declared.id.RegionId.{RegionId};
 ghost use Rattle.pool_law.specs.declared.id.RootId.{RootId};
 ghost use Rattle.pool_law.specs.declared.id.ViewData.{ViewData};
 ghost use Rattle.pool_law.specs.declared.note.Did.{Did};
-ghost use Rattle.pool_law.specs.declared.note.Did.TheVariants.{Take};
 ghost use Rattle.pool_law.specs.declared.note.Note.{Note};
-ghost use Rattle.run_text.specs.Told.{did_told, note_told, spot_told, use_told, view_told};
-ghost use Rattle.run_text.specs.Lines.{AreTold, IsDidTold, IsTold, IsViewTold, Line, begun, brought, in_hand, key_at, last_born, place_of, region_with, taking_key, uses_after};
+ghost use Rattle.run_text.specs.Told.{did_told, note_told, view_told};
+ghost use Rattle.run_text.specs.Lines.{AreTold, IsDidTold, IsTold, IsViewTold, Line, begun, brought, last_born, place_of};
 ghost use Rattle.run_text.specs.Knowing.{IsAt, line_told, of_region};
+
+mod named;
 
 use crate::LineNo;
 use crate::known::{Known, RootKey, TakingKey, key_of, taking_key};
@@ -161,19 +161,6 @@ impl Filler {
         known_or(self.known.born(key), LineNo::Root)
     }
 
-    // The taking of a region at an object.
-    fn taking_at(&self, object: &Object, told: &RegionId) -> TakingKey
-        ensures { 0 < self.now.arenas → result ≡ key_at self.now.arenas object.now told.now }
-    {
-        let arena = match object {
-            Object::Arena(arena) => *arena,
-            // A lane's cache has regions of the arena that the lane takes from.
-            Object::Cache { lane, .. } => lane.checked_rem(self.arenas).unwrap_or(0),
-            Object::Bin(_) | Object::Mail { .. } | Object::Root(_) => 0,
-        };
-        (arena, told.taking)
-    }
-
     // What was done, where the line tells this of it.
     fn done(&self, lane: u32, object: &Object, told: Did) -> Result<Did, LineNo>
         ensures { (arenas : ℕ) (all before : List Line) (did : Did)
@@ -244,110 +231,6 @@ impl Filler {
             }
             other => Ok(other),
         }
-    }
-
-    // A region that is taken.
-    fn taken(
-        &self,
-        lane: u32,
-        object: &Object,
-        class: u32,
-        told: &RegionId,
-    ) -> Result<RegionId, LineNo>
-        ensures { (arenas : ℕ) (all before : List Line) (region : RegionId)
-            → IsAt arenas all before self.now → told.now ≡ spot_told region
-            → IsDidTold arenas all before lane object.now (Take class region)
-            → result ≡ Ok region }
-    {
-        let (arena, _) = self.taking_at(object, told);
-        known_or(
-            self.known.region_taken(lane, arena, class, told),
-            LineNo::Region,
-        )
-    }
-
-    // A region that comes of a cache: it is used as often as the notes tell that were passed.
-    fn hit(&self, object: &Object, told: &RegionId) -> Result<RegionId, LineNo>
-        ensures { (arenas : ℕ) (all before : List Line) (region : RegionId)
-            → IsAt arenas all before self.now → told.now.taking ≡ region.taking
-            → region_with all (key_at arenas object.now region)
-            (uses_after before (key_at arenas object.now region)) ≡ Some region
-            → result ≡ Ok region }
-    {
-        let taking = self.taking_at(object, told);
-        known_or(
-            self.known.region(taking, self.passed_uses(taking)),
-            LineNo::Region,
-        )
-    }
-
-    // A region that is sent back of a cache: it is used no more.
-    fn shed(&self, object: &Object, told: &RegionId) -> Result<RegionId, LineNo>
-        ensures { (arenas : ℕ) (all before : List Line) (region : RegionId)
-            → IsAt arenas all before self.now → told.now.taking ≡ region.taking
-            → region_with all (key_at arenas object.now region)
-            (uses_after all (key_at arenas object.now region)) ≡ Some region
-            → result ≡ Ok region }
-    {
-        let taking = self.taking_at(object, told);
-        known_or(
-            self.known.region(taking, self.known.uses_of(taking)),
-            LineNo::Region,
-        )
-    }
-
-    // A region that is kept: that in hand, or another after the uses that were passed so far.
-    fn kept(&self, object: &Object, told: &RegionId) -> Result<RegionId, LineNo>
-        ensures { (arenas : ℕ) (all before : List Line) (region : RegionId)
-            → IsAt arenas all before self.now → told.now.taking ≡ region.taking
-            → in_hand all before ≡ Some region → result ≡ Ok region }
-    {
-        let taking = self.taking_at(object, told);
-        self.held(taking, self.passed_uses(taking))
-    }
-
-    // A region that is put away for the last time: that in hand, or another after its last use.
-    fn put(&self, object: &Object, told: &RegionId) -> Result<RegionId, LineNo>
-        ensures { (arenas : ℕ) (all before : List Line) (region : RegionId)
-            → IsAt arenas all before self.now → told.now.taking ≡ region.taking
-            → in_hand all before ≡ Some region → result ≡ Ok region }
-    {
-        let taking = self.taking_at(object, told);
-        self.held(taking, self.known.uses_of(taking))
-    }
-
-    // The region in hand, where it is of this taking; or another, used so often.
-    fn held(&self, taking: TakingKey, uses: u64) -> Result<RegionId, LineNo>
-        ensures { (region : RegionId) → self.now.hand ≡ Some region → taking.1 ≡ region.taking
-            → result ≡ Ok region }
-    {
-        if let Some(region) = self.hand {
-            if region.taking == taking.1 {
-                return Ok(region);
-            }
-        }
-        known_or(self.known.region(taking, uses), LineNo::Region)
-    }
-
-    // The uses that the last birth or growth tells of a taking, of the notes that were passed.
-    fn passed_uses(&self, taking: TakingKey) -> u64
-        ensures { (arenas : ℕ) (all before : List Line) → IsAt arenas all before self.now
-            → result ≡ uses_after before taking }
-    {
-        self.passed.get(&taking).copied().unwrap_or(0)
-    }
-
-    // A region that a root begins to use.
-    fn used(&self, told: &RegionId) -> Result<RegionId, LineNo>
-        ensures { (arenas : ℕ) (all before : List Line) (region : RegionId)
-            → IsAt arenas all before self.now → told.now ≡ use_told region
-            → region_with all (taking_key region) region.uses ≡ Some region
-            → result ≡ Ok region }
-    {
-        known_or(
-            self.known.region(taking_key(told), told.uses),
-            LineNo::Region,
-        )
     }
 
     // A parcel.

@@ -1,18 +1,18 @@
 //! The lines of a text.
 
-ghost use Rattle.std.specs.Prelude.{◌≡◌, ◌≤◌, length};
+ghost use Rattle.std.specs.Prelude.{◌≡◌, ◌≤◌, length, map, slice_get, IfOk, MatchResult, Some};
+ghost use Rattle.std.specs.Str.Lines.{lines};
+ghost use Rattle.pool_law.specs.Text.{Text};
 
 use crate::words::Words;
 use crate::{LineNo, TextNo};
 use std::alloc::{AllocError, Global};
 
 /// The lines of a text, in order.
-pub fn lines_of(alloc: Global, text: &str) -> Result<Vec<&str>, AllocError> {
-    let mut lines = Vec::new(alloc);
-    for line in text.lines() {
-        lines.push(line)?;
-    }
-    Ok(lines)
+pub fn lines_of(alloc: Global, text: &str) -> Result<Vec<&str>, AllocError>
+    ensures { IfOk result (λ list. map (λ l. l.now) list.items ≡ lines text.now) }
+{
+    text.lines().collect(alloc)
 }
 
 /// The number of the line behind so many, or the greatest number.
@@ -21,7 +21,10 @@ pub fn number_behind(count: usize) -> u32 {
 }
 
 /// The words of the line behind so many.
-pub fn words_behind<'a>(lines: &[&'a str], count: usize) -> Result<Words<'a>, TextNo> {
+pub fn words_behind<'a>(lines: &[&'a str], count: usize) -> Result<Words<'a>, TextNo>
+    ensures { (text : Text) → slice_get (map (λ l. l.now) lines.now) count ≡ Some text
+        → MatchResult result (λ words. words.rest.now ≡ text) (λ no. ⊥) }
+{
     let number = number_behind(count);
     match lines.get(count) {
         Some(line) => Ok(Words::of(*line, number)),
