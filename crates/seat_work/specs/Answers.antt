@@ -10,8 +10,8 @@ use Rattle.pool_law.specs.declared.report.Watch.{Watch}
 use Rattle.pool_law.specs.declared.run.Reply.{Reply}
 use Rattle.pool_law.specs.declared.run.Shape.{Shape}
 use Rattle.pool_law.specs.Naming.{noted_by}
-use Rattle.pool_law.specs.Patterns.{New, ask_arena, bear, give_back, obtain, one_more, with_handle}
-use Rattle.pool_law.specs.Readers.{Reader, ◌>>=◌, give, nothing}
+use Rattle.pool_law.specs.Patterns.{New, ask_arena, bear, obtain, one_more, with_handle}
+use Rattle.pool_law.specs.Readers.{Reader, ◌>>=◌, give}
 use Rattle.pool_table.specs.declared.views.Entry.{Entry}
 use Rattle.pool_table.specs.declared.views.Entry.TheVariants.{At}
 use Rattle.pool_table.specs.declared.views.SeatView.{SeatView}
@@ -151,8 +151,3 @@ with_class shape lane class size place = obtain shape lane class >>= bear lane p
 
 abbrev pub with_arena : Shape → ℕ → ℕ → ℕ → ℕ → Reader (Result New Reply)
 with_arena shape lane class size place = ask_arena shape lane class >>= bear lane place size
-
--- how an offer of a region is read on: it was kept, or comes back
-abbrev pub offers_on : Option Region → Reader (Unit {0})
-offers_on None = nothing
-offers_on (Some region) = give_back region.id

@@ -222,27 +222,9 @@ fn pop_handle<W: Wait>(rt: &W, pool: &SharedPool, seat: &mut PoolSeat) -> Option
     }
 }
 
-// The same, as often as another seat is in the way. Here the room for the answer is made, and not at
-// the head of each allocation.
-#[inline(always)]
-fn wait_for_handle<W: Wait>(rt: &W, pool: &SharedPool, seat: &mut PoolSeat) -> Option<Handle>
-    requires { Works pool.now empty_hand 1 0 seat.old }
-    ensures proceeds { Proceeds pool.now (hand_got result) 1 0 (handle_told result)
-        seat.old seat.new }
-    ensures handle { IfSome result (IsHandle pool.now) }
-    ensures later { IsLater pool.now seat.old seat.new }
-    ensures took { IfSome result (λ h. TookHandle pool.now h.place seat.old seat.new) }
-    ensures own { IfSome result (λ h. h.lane ≡ lane_of seat.old) }
-    ensures reads { let shape = pool.now.table.layout.shape in let lane = lane_of seat.old in
-        (size : ℕ) → NotesOn (allot shape lane size) (with_got shape lane size result)
-        (view_of seat.old) (view_of seat.new) }
-{
-    pop_handle_apart(rt, pool, seat)
-}
-
-// The same: seldom, so apart.
+// The same, as often as another seat is in the way.
 #[inline(never)]
-fn pop_handle_apart<W: Wait>(rt: &W, pool: &SharedPool, seat: &mut PoolSeat) -> Option<Handle>
+fn wait_for_handle<W: Wait>(rt: &W, pool: &SharedPool, seat: &mut PoolSeat) -> Option<Handle>
     requires { Works pool.now empty_hand 1 0 seat.old }
     ensures proceeds { Proceeds pool.now (hand_got result) 1 0 (handle_told result)
         seat.old seat.new }
