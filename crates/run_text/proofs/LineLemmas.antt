@@ -1,14 +1,16 @@
 -- Lines of notes among the lines of a text.
-use Rattle.std.proofs.Common.{◌≡◌, ℕ, ◌+◌, ◌-◌, ◌<◌, ◌≤◌, List, [], ◌∷◌, ◌++◌, length, get_or, map, take, Some, Result, Ok, Err, codes, decimal, sym, ap, ◌∙◌, arith, length-append, append-nil}
-use Rattle.std.specs.Prelude.{IsErrAnd, MatchResult, slice_get}
+use Rattle.std.proofs.Common.{◌≡◌, ℕ, ◌+◌, ◌-◌, ◌<◌, ◌≤◌, List, [], ◌∷◌, ◌++◌, length, get_or, map, take, Some, Result, Ok, Err, codes, decimal, sym, ap, ◌∙◌, arith, length-append, append-nil, false, inl, inr, add-zero}
+use Rattle.std.specs.Prelude.{IsErrAnd, MatchResult, nat_eq, slice_get}
+use Rattle.std.specs.List.{All, starts_with}
+use Rattle.std.proofs.lemmas.Bool.{cases_lt, true≢false}
 use Rattle.std.proofs.lemmas.List.{get_or-append-add, get_or-map, get_or_append_left, length-map, map-append, take_more}
 use Rattle.std.proofs.lemmas.Option.{slice_get-get_or}
-use Rattle.pool_law.specs.declared.note.Held.{Held}
 use Rattle.pool_law.specs.declared.note.Note.{Note}
 use Rattle.pool_law.specs.declared.note.Object.{Object}
 use Rattle.pool_law.specs.Text.{Text, note_words, spaced}
 use Rattle.run_text.specs.Lines.{Line}
 use Rattle.run_text.specs.Knowing.{line_text, line_told}
+use Rattle.run_text.specs.Starting.{Begins, BeginsNot}
 use Rattle.run_text.specs.declared.TextNo.{TextNo}
 use Rattle.run_text.specs.declared.TextNo.TheVariants.{Memory}
 
@@ -31,7 +33,8 @@ abbrev pub no_line : Line
 no_line = (0, Note.Busy (record { object = Object.Arena 0; number = 0 }))
 
 module _ (texts front back : List Text) (notes : List Line) (from to n : ℕ)
-    (is : texts ≡ front ++ (map line_text notes ++ back)) (long : length front ≡ from) (ends : from + length notes ≡ to)
+    (is : texts ≡ front ++ (map line_text notes ++ back)) (long : length front ≡ from)
+    (ends : from + length notes ≡ to)
     (first : from ≤ n) (last : n < to) where
   -- the line of this number is that of a note
   pub within : n - from < length notes
@@ -66,3 +69,60 @@ pub refused_on : {X : Type 0} (r : Result X TextNo) (why : TextNo) (P : X → Ty
     → why ≡ Memory → MatchResult r P (λ no. no ≡ Memory)
 refused_on (Ok y) why P h memory = absurd h
 refused_on (Err e) why P h memory = h ∙ memory
+
+-- ---- Lines that begin so.
+
+module _ (first : Text) (texts front middle back : List Text) (from : ℕ) (is : texts ≡ front ++ (middle ++ back))
+    (long : length front ≡ from) (inside : All (Begins first) middle) (outside : BeginsNot first back) where
+  pub whole : length texts ≡ from + (length middle + length back)
+  whole = omega (arith, ap length is, length-append front (middle ++ back), length-append middle back, long)
+
+  at_from : (k : ℕ) → get_or texts (from + k) [] ≡ get_or (middle ++ back) k []
+  at_from k =
+      ap (λ (t : List Text). get_or t (from + k) []) is
+      ∙ ap (λ n. get_or (front ++ (middle ++ back)) (n + k) []) (sym long)
+      ∙ get_or-append-add front (middle ++ back) k []
+
+  -- those of the middle do
+  all_do : (n : ℕ) → from ≤ n → n < from + length middle → Begins first (get_or texts n [])
+  all_do n low high =
+      let there : n - from < length middle = omega (arith, low, high) in
+      let place : n ≡ from + (n - from) = omega (arith, low) in
+      ap (λ (t : Text). starts_with nat_eq t first)
+      (ap (λ m. get_or texts m []) place ∙ at_from (n - from)
+      ∙ get_or_append_left middle back [] (n - from) there)
+      ∙ inside (n - from) [] there
+
+  -- the next, where there is one, does not
+  next_not : from + length middle < length texts → starts_with nat_eq (get_or texts (from + length middle) []) first
+      ≡ false
+  next_not more =
+      ap (λ (t : Text). starts_with nat_eq t first)
+      (at_from (length middle) ∙ behind (omega (arith, more, whole)))
+      ∙ head_not back (omega (arith, more, whole)) outside
+    where
+      behind : 0 < length back → get_or (middle ++ back) (length middle) [] ≡ get_or back 0 []
+      behind some =
+          ap (λ n. get_or (middle ++ back) n []) (sym (add-zero (length middle)))
+          ∙ get_or-append-add middle back 0 []
+
+      head_not : (rest : List Text) → 0 < length rest → BeginsNot first rest
+          → starts_with nat_eq (get_or rest 0 []) first ≡ false
+      head_not [] some not = absurd (omega (arith, some))
+      head_not (t ∷ rest) some not = not
+
+  -- so they end where the first is that does not
+  pub end_is : (n : ℕ) → from ≤ n → n ≤ length texts → ((i : ℕ) → from ≤ i → i < n → Begins first (get_or texts i []))
+      → (n < length texts → starts_with nat_eq (get_or texts n []) first ≡ false) → n ≡ from + length middle
+  end_is n low high before there =
+      elim (cases_lt n (from + length middle)) [
+        | inl less ↦
+            absurd (true≢false (sym (all_do n low less) ∙ there (omega (arith, less, whole))))
+        | inr more ↦
+            elim (cases_lt (from + length middle) n) [
+              | inl over ↦
+                  absurd (true≢false (sym (before (from + length middle) (omega arith) over)
+                  ∙ next_not (omega (arith, over, high))))
+              | inr same ↦ omega (arith, more, same)
+            ]
+      ]

@@ -1,8 +1,10 @@
 //! The lines of a text.
 
-ghost use Rattle.std.specs.Prelude.{◌≡◌, ◌≤◌, length, map, slice_get, IfOk, MatchResult, Some};
+ghost use Rattle.std.specs.Prelude.{◌≡◌, ◌+◌, ◌++◌, length, map, List, slice_get, IfOk, MatchResult, Some};
+ghost use Rattle.std.specs.List.{All};
 ghost use Rattle.std.specs.Str.Lines.{lines};
 ghost use Rattle.pool_law.specs.Text.{Text};
+ghost use Rattle.run_text.specs.Starting.{Begins, BeginsNot};
 
 use crate::words::Words;
 use crate::{LineNo, TextNo};
@@ -36,7 +38,12 @@ pub fn words_behind<'a>(lines: &[&'a str], count: usize) -> Result<Words<'a>, Te
 }
 
 /// How many lines stand before the first, from so many on, that doesn't begin so.
-pub fn end_of(lines: &[&str], from: usize, first: &str) -> usize {
+pub fn end_of(lines: &[&str], from: usize, first: &str) -> usize
+    ensures { (front middle back : List Text)
+        → map (λ l. l.now) lines.now ≡ front ++ (middle ++ back) → length front ≡ from
+        → All (Begins first.now) middle → BeginsNot first.now back
+        → result ≡ from + length middle }
+{
     let mut end = from;
     for at in from..lines.len() {
         if !lines[at].starts_with(first) {
