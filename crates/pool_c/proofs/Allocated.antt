@@ -9,6 +9,7 @@ use Rattle.seat_tries.specs.declared.allocation.AllocNo.{AllocNo}
 use Rattle.seat_tries.specs.Allocations.{refused}
 use Rattle.pool_member.specs.declared.account.Account.{Account}
 use Rattle.pool_member.specs.declared.member.Member.{Member}
+use Rattle.pool_member.specs.Allotting.{IsAllotted, IsTryRefused}
 use Rattle.pool_member.specs.Attempts.{as_try, HasTryCause}
 use Rattle.pool_member.specs.Counting.{counted, known}
 use Rattle.pool_member.specs.Refusals.{is_here}
@@ -27,25 +28,30 @@ here_of a w own counts reaches = first_of (search rules, grind (arith, nat_tests
 pub has_allocated : (size : ℕ) (c : Common) (old new : Member) (root : RootId) → root.capacity ≡ size
     → 0 < counted new.account.counts root → Does c.shared 6 (once_more root) None old new
     → new.account.moves ≡ old.account.moves → HasBorn c.shared root old.seat new.seat
-    → new.watcher ≡ with_next old.watcher → HasAllocated size c old new (whole c.name new.account.lane root)
-has_allocated size c old new root is counts does moves born watcher = record {
+    → new.watcher ≡ with_next old.watcher → IsAllotted c.shared size root old new
+    → HasAllocated size c old new (whole c.name new.account.lane root)
+has_allocated size c old new root is counts does moves born watcher notes = record {
   whole_is = ap (λ n. whole c.name n root) does.changed.number;
   size_is = is;
   here = here_of new.account (window_of (whole c.name new.account.lane root)) refl counts (omega arith);
   does = does;
   moves = moves;
   born = born;
+  notes = notes;
   watcher = watcher;
 }
 
-pub has_stopped : (c : Common) (old new : Member) (stop : AllocNo) → Does c.shared 6 (refused stop) None old new
-    → new.account.moves ≡ old.account.moves → HasTryCause c.shared old new (as_try stop)
-    → new.watcher ≡ old.watcher → HasStopped c old new (as_stop stop)
-has_stopped c old new stop does moves cause watcher = record {
+pub has_stopped : (size : ℕ) (c : Common) (old new : Member) (stop : AllocNo)
+    → Does c.shared 6 (refused stop) None old new → new.account.moves ≡ old.account.moves
+    → HasTryCause c.shared old new (as_try stop) → new.watcher ≡ old.watcher
+    → IsTryRefused c.shared size (as_try stop) old new
+    → HasStopped size c old new (as_stop stop)
+has_stopped size c old new stop does moves cause watcher notes = record {
   stop = stop;
   why_is = refl;
   does = does;
   moves = moves;
   cause = cause;
+  notes = notes;
   watcher = watcher;
 }

@@ -5,6 +5,7 @@ use mathlib.Core.Logic.{inl, inr}
 use Rattle.std.proofs.lemmas.Bool.{cases_lt, eqb-true, le-ltb}
 use Rattle.size_classes.specs.Sizes.{chunk_bytes}
 use Rattle.pool_law.specs.declared.id.RootId.{RootId}
+use Rattle.pool_law.specs.declared.run.Reply.{Reply}
 use Rattle.pool_law.specs.Limits.{geometry_of}
 use Rattle.seat_work.specs.Changes.{no_change}
 use Rattle.seat_work.specs.Regrowths.{IsTold}
@@ -14,6 +15,7 @@ use Rattle.pool_member.specs.declared.answers.CapacityNo.TheVariants as capacity
 use Rattle.pool_member.specs.declared.member.Member.{Member}
 use Rattle.pool_member.specs.Alone.{GrowsAlone}
 use Rattle.pool_member.specs.Counting.{counted, known}
+use Rattle.pool_member.specs.Growing.{IsGrown}
 use Rattle.pool_member.specs.Growths.{MeetsOtherBut}
 use Rattle.pool_member.specs.Refusals.{is_here}
 use Rattle.pool_member.specs.Threads.{Does}
@@ -87,16 +89,17 @@ module _ (b : PoolBuffer) (size : ℕ) (c : Common) (old new : Member)
   pub grown : (bytes : ℕ) → size ≤ bytes → b.offset + b.length ≤ known old.account.counts root
       → known old.account.counts root ≤ bytes → bytes ≤ known new.account.counts root
       → 0 < counted new.account.counts root → IsTold x.shared root bytes old.seat new.seat
+      → IsGrown x.shared root size (Ok bytes) old new
       → Does x.shared 6 no_change (Some root) old new → GrowsAlone root old new
       → new.account.moves ≡ old.account.moves
       → Grows b size c old new (Ok (record b { length = bytes - b.offset }))
-  grown bytes enough reached knows told counts noted does alone moves =
+  grown bytes enough reached knows told counts noted notes does alone moves =
       let longer : PoolBuffer = record b { length = bytes - b.offset } in
       let ends : b.offset + b.length ≤ bytes = omega (arith, reached, knows) in
       let reach : bytes ≤ known new.account.counts (root_of b) =
       there (λ y r. bytes ≤ known new.account.counts r) told in
       begun_call (capacity_refusal c old.account b size) (Ok longer) old new (HasGrown b size c old new)
-      (StopsGrowing b c old new) may_grow
+      (StopsGrowing b size c old new) may_grow
       (record {
         bytes = bytes;
         enough = enough;
@@ -106,6 +109,7 @@ module _ (b : PoolBuffer) (size : ℕ) (c : Common) (old new : Member)
             here_of new.account (window_of longer) (does.changed.number ∙ own_of old.account (window_of b) begun.1)
             (there (λ y r. 0 < counted new.account.counts r) counts) (omega (arith, ends, reach));
         told = there (λ y r. IsTold y.shared r bytes old.seat new.seat) noted;
+        notes = there (λ y r. IsGrown y.shared r size (Ok bytes) old new) notes;
         does = there (λ y r. Does y.shared 6 no_change (Some r) old new) does;
         alone = there (λ y r. GrowsAlone r old new) alone;
         moves = moves;
@@ -116,7 +120,7 @@ module _ (b : PoolBuffer) (size : ℕ) (c : Common) (old new : Member)
       → Grows b size c old new (Err no.Busy)
   busy does alone moves meets =
       begun_call (capacity_refusal c old.account b size) (Err no.Busy) old new (HasGrown b size c old new)
-      (StopsGrowing b c old new) may_grow (
+      (StopsGrowing b size c old new) may_grow (
         there (λ y r. Does y.shared 6 no_change (Some r) old new) does,
         there (λ y r. GrowsAlone r old new) alone,
         moves,
@@ -124,11 +128,13 @@ module _ (b : PoolBuffer) (size : ℕ) (c : Common) (old new : Member)
       )
 
   pub full : Does x.shared 6 (record no_change { full = 1 }) (Some root) old new → GrowsAlone root old new
-      → new.account.moves ≡ old.account.moves → Grows b size c old new (Err no.Full)
-  full does alone moves =
+      → new.account.moves ≡ old.account.moves → IsGrown x.shared root size (Err Reply.Full) old new
+      → Grows b size c old new (Err no.Full)
+  full does alone moves notes =
       begun_call (capacity_refusal c old.account b size) (Err no.Full) old new (HasGrown b size c old new)
-      (StopsGrowing b c old new) may_grow (
+      (StopsGrowing b size c old new) may_grow (
         there (λ y r. Does y.shared 6 (record no_change { full = 1 }) (Some r) old new) does,
         there (λ y r. GrowsAlone r old new) alone,
         moves,
+        there (λ y r. IsGrown y.shared r size (Err Reply.Full) old new) notes,
       )

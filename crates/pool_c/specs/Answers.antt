@@ -10,6 +10,7 @@ use Rattle.seat_tries.specs.Allocations.{refused}
 use Rattle.seat_tries.specs.Leaving.{MeetsOther}
 use Rattle.pool_law.specs.Limits.{geometry_of}
 use Rattle.pool_member.specs.declared.member.Member.{Member}
+use Rattle.pool_member.specs.Allotting.{IsAllotted, IsTryRefused}
 use Rattle.pool_member.specs.Alone.{AreLaid, LaysOver}
 use Rattle.pool_member.specs.Attempts.{as_try, HasTryCause}
 use Rattle.pool_member.specs.Refusals.{is_here}
@@ -69,7 +70,8 @@ whole pool thread root = record {
   length = root.capacity;
 }
 
--- the thread has a new buffer of so many bytes, and counts a birth for the watching
+-- the thread has a new buffer of so many bytes, noted just what the law of lanes reads of that, and
+-- counts a birth for the watching
 pub record HasAllocated (size : ℕ) (c : Common) (old new : Member) (b : PoolBuffer) : Type 0 where
   pub whole_is : b ≡ whole c.name old.account.lane (root_of b)
   pub size_is : b.length ≡ size
@@ -77,6 +79,7 @@ pub record HasAllocated (size : ℕ) (c : Common) (old new : Member) (b : PoolBu
   pub does : Does c.shared 6 (once_more (root_of b)) None old new
   pub moves : new.account.moves ≡ old.account.moves
   pub born : HasBorn c.shared (root_of b) old.seat new.seat
+  pub notes : IsAllotted c.shared size (root_of b) old new
   pub watcher : new.watcher ≡ with_next old.watcher
 
 -- a try of an allocation that stopped, as it is told here
@@ -86,20 +89,21 @@ as_stop tries.NoHandle = NoHandle
 as_stop tries.Full = Full
 as_stop tries.Worn = Worn
 
--- it stopped for this cause, and no birth is counted: what it told of an empty bin and a full arena
--- is in the change
-pub record HasStopped (c : Common) (old new : Member) (why : Refusal) : Type 0 where
+-- it stopped for this cause, and no birth is counted; of an empty bin, and of an arena that is full for
+-- so many bytes, it noted just what the law of lanes reads of that
+pub record HasStopped (size : ℕ) (c : Common) (old new : Member) (why : Refusal) : Type 0 where
   pub stop : AllocNo
   pub why_is : why ≡ as_stop stop
   pub does : Does c.shared 6 (refused stop) None old new
   pub moves : new.account.moves ≡ old.account.moves
   pub cause : HasTryCause c.shared old new (as_try stop)
+  pub notes : IsTryRefused c.shared size (as_try stop) old new
   pub watcher : new.watcher ≡ old.watcher
 
 abbrev pub Allocs : ℕ → Common → Member → Member → Result PoolBuffer Refusal → Type 0
 Allocs size c old new answer =
     Answers (size_refusal (geometry_of c.shared.table.layout.shape) old.account size) answer old new
-    (HasAllocated size c old new) (HasStopped c old new)
+    (HasAllocated size c old new) (HasStopped size c old new)
 
 -- the thread counts a root once less, and it was told whether that was the last count of all
 pub record HasReleased (root : RootId) (c : Common) (old new : Member) (ended : ℤ) : Type 0 where

@@ -1,8 +1,9 @@
 -- How a thread has a buffer get longer, gives memory back, and looks at counts.
-use Rattle.std.specs.Prelude.{◌≡◌, ℕ, ◌+◌, ◌-◌, ◌<◌, ◌≤◌, ◌==◌, true, if◌then◌else◌, Option, Some, None, option_map, Result, MatchResult, IsTrue}
+use Rattle.std.specs.Prelude.{◌≡◌, ℕ, ◌+◌, ◌-◌, ◌<◌, ◌≤◌, ◌==◌, true, if◌then◌else◌, Option, Some, None, option_map, Result, Ok, Err, MatchResult, IsTrue}
 use Rattle.pool_law.specs.Limits.{cached_classes, geometry_of}
 use Rattle.pool_law.specs.declared.note.Did.TheVariants as did
 use Rattle.pool_law.specs.declared.note.RefDid.TheVariants.{Look}
+use Rattle.pool_law.specs.declared.run.Reply.TheVariants.{Full}
 use Rattle.pool_table.specs.Counts.{with_ref}
 use Rattle.shared_pool.specs.SeatViews.{HasView, view_of}
 use Rattle.seat_work.specs.Changes.{no_change}
@@ -12,6 +13,7 @@ use Rattle.pool_member.specs.declared.answers.CapacityNo.{CapacityNo}
 use Rattle.pool_member.specs.declared.answers.CapacityNo.TheVariants as capacity
 use Rattle.pool_member.specs.declared.member.Member.{Member}
 use Rattle.pool_member.specs.Alone.{GrowsAlone}
+use Rattle.pool_member.specs.Growing.{IsGrown}
 use Rattle.pool_member.specs.Growths.{MeetsOtherBut}
 use Rattle.pool_member.specs.Refusals.{is_here}
 use Rattle.pool_member.specs.Regrowths.{capacity_no}
@@ -42,7 +44,8 @@ capacity_refusal c a b size =
     (capacity_no (geometry_of c.shared.table.layout.shape) a (window_of b) size)
     else Some no.NotHere
 
--- the buffer reaches up to the last of so many bytes, which are enough, and were told in this call;
+-- the buffer reaches up to the last of so many bytes, which are enough, and were told in this call, in
+-- notes that are just what the law of lanes reads of an ask for so many;
 -- where the thread alone has its root it has it alone still, with zeros behind what it laid there
 pub record HasGrown (b : PoolBuffer) (size : ℕ) (c : Common) (old new : Member) (grown : PoolBuffer) :
     Type 0 where
@@ -52,27 +55,30 @@ pub record HasGrown (b : PoolBuffer) (size : ℕ) (c : Common) (old new : Member
   pub grown_is : grown ≡ record b { length = bytes - b.offset }
   pub here : IsTrue (is_here new.account (window_of grown))
   pub told : IsTold c.shared (root_of b) bytes old.seat new.seat
+  pub notes : IsGrown c.shared (root_of b) size (Ok bytes) old new
   pub does : Does c.shared 6 no_change (Some (root_of b)) old new
   pub alone : GrowsAlone (root_of b) old new
   pub moves : new.account.moves ≡ old.account.moves
 
--- another was in the way, or the arena was full, as was noted once; no other answer comes
-abbrev pub StopsGrowing : PoolBuffer → Common → Member → Member → Refusal → Type 0
-StopsGrowing b c old new no.Busy =
+-- another was in the way, or the arena was full for so many bytes, as was noted once, behind too small
+-- a capacity; no other answer comes
+abbrev pub StopsGrowing : PoolBuffer → ℕ → Common → Member → Member → Refusal → Type 0
+StopsGrowing b size c old new no.Busy =
     Does c.shared 6 no_change (Some (root_of b)) old new
     × GrowsAlone (root_of b) old new
     × (new.account.moves ≡ old.account.moves)
     × MeetsOtherBut (root_of b) c.shared old.seat new.seat
-StopsGrowing b c old new no.Full =
+StopsGrowing b size c old new no.Full =
     Does c.shared 6 (record no_change { full = 1 }) (Some (root_of b)) old new
     × GrowsAlone (root_of b) old new
     × (new.account.moves ≡ old.account.moves)
-StopsGrowing b c old new why = ⊥
+    × IsGrown c.shared (root_of b) size (Err Full) old new
+StopsGrowing b size c old new why = ⊥
 
 abbrev pub Grows : PoolBuffer → ℕ → Common → Member → Member → Result PoolBuffer Refusal → Type 0
 Grows b size c old new answer =
     Answers (capacity_refusal c old.account b size) answer old new (HasGrown b size c old new)
-    (StopsGrowing b c old new)
+    (StopsGrowing b size c old new)
 
 -- ---- Caches.
 

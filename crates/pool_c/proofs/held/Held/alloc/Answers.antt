@@ -36,16 +36,16 @@ returns-clause-allocs c =
           rw w.result-is (subst (λ (p : Common × Member). Allocs size p.0 p.1 new (Ok w.whole.result))
           (λ i. (common i, member i))
           (begun_call (size_refusal g m.account size) (Ok w.whole.result) m new (HasAllocated size x m new)
-          (HasStopped x m new) may
+          (HasStopped size x m new) may
           (subst (HasAllocated size x m new)
           (sym (w.whole.ensures ∙ ap (λ n. whole n new.account.lane w.in-Ok.root) name))
-          (has_allocated size x m new w.in-Ok.root ok.root ok.counts ok.does ok.moves ok.born ok.watcher))))
+          (has_allocated size x m new w.in-Ok.root ok.root ok.counts ok.does ok.moves ok.born ok.watcher ok.notes))))
       | in-Err w ↦
           let err = w.in-Err.ensures in
           rw w.result-is (subst (λ (p : Common × Member). Allocs size p.0 p.1 new (Err w.stopped.result))
           (λ i. (common i, member i))
           (begun_call (size_refusal g m.account size) (Err w.stopped.result) m new (HasAllocated size x m new)
-          (HasStopped x m new) may
-          (subst (HasStopped x m new) (sym w.stopped.ensures)
-          (has_stopped x m new w.in-Err.no err.does err.moves err.cause err.watcher))))
+          (HasStopped size x m new) may
+          (subst (HasStopped size x m new) (sym w.stopped.ensures)
+          (has_stopped size x m new w.in-Err.no err.does err.moves err.cause err.watcher err.notes))))
     ]

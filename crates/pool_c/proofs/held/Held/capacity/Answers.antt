@@ -4,6 +4,7 @@ use Rattle.pool_law.specs.Limits.{geometry_of}
 use Rattle.pool_member.specs.declared.member.Member.{Member}
 use Rattle.pool_member.specs.declared.work.attempted.AskNo.{AskNo}
 use Rattle.pool_member.specs.Counting.{known}
+use Rattle.pool_member.specs.Growing.{IsAsked}
 use Rattle.pool_member.specs.Growths.{asked, MayRefuseAsked}
 use Rattle.pool_member.specs.Threads.{Does}
 use Rattle.pool_c.specs.declared.held.Common.{Common}
@@ -37,7 +38,7 @@ returns-clause-grows c =
           let e = w.in-Ok.ensures in
           subst (Grows b size h.common m new) (sym w.result-is)
           (grown b size h.common m new may within turns x r.root same r.ensures.root w.in-Ok.capacity e.enough.0
-          reached e.knows.0 e.knows.1 e.counts e.told e.does e.alone e.moves)
+          reached e.knows.0 e.knows.1 e.counts e.told e.notes e.does e.alone e.moves)
       | in-Err-Busy w ↦
           let e = w.in-Err-Busy.ensures in let is = w.in-Err-Busy.field-0-is in
           subst (Grows b size h.common m new) (sym w.result-is)
@@ -48,5 +49,6 @@ returns-clause-grows c =
           let e = w.in-Err-Full.ensures in let is = w.in-Err-Full.field-0-is in
           subst (Grows b size h.common m new) (sym w.result-is)
           (full b size h.common m new may within turns x r.root same r.ensures.root
-          (subst (λ (n : AskNo). Does x.shared 6 (asked (Err n)) (Some r.root) m new) is e.does) e.alone e.moves)
+          (subst (λ (n : AskNo). Does x.shared 6 (asked (Err n)) (Some r.root) m new) is e.does) e.alone e.moves
+          (subst (λ (n : AskNo). IsAsked x.shared r.root size (Err n) m new) is e.notes))
     ])
