@@ -6,7 +6,7 @@ ghost use Rattle.frame_hash.specs.Standing.{IsBegun, SameWorker, WorkerCame, Wor
 use crate::hashes::{FrameHash, HashOf};
 use crate::hashing::hash_parcel;
 use crate::shop::Shop;
-use crate::turns::{HASH_TURNS, ROUND_TURNS};
+use crate::turns::HASH_TURNS;
 use job_queue::{Job, JobEnd, pop};
 use sha2::{Digest, Sha256};
 use shared_pool::{Fetched, PoolSeat};
@@ -178,22 +178,10 @@ impl Worker {
         };
         if frame.left > 0 {
             self.work = Work::Frame(frame);
-            return Ok(self.end_of_step());
+            return Ok(Stepped::Went);
         }
         self.finish(frame)?;
-        Ok(self.end_of_step())
-    }
-
-    // What the step of a slice did. Once in a round it is told as Pending, so that a thread that has
-    // a machine of its own comes back to that, however many frames are handed to this worker.
-    fn end_of_step(&self) -> Stepped
-        ensures { result ≢ Stepped.Finished }
-    {
-        if self.turns % ROUND_TURNS < HASH_TURNS {
-            Stepped::Pending
-        } else {
-            Stepped::Went
-        }
+        Ok(Stepped::Went)
     }
 
     // Tells of a frame that is hashed.
