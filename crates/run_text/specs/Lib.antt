@@ -1,3 +1,6 @@
+pub mod Knowing
+pub mod Lines
 pub mod Reading
 pub mod Reads
+pub mod Starting
 pub mod Told
