@@ -6,14 +6,13 @@
 //! `size_classes` and `ground` alone. Of this a checker of runs takes whether an object accepts a history
 //! (`accepts`), what an arena comes to (`arena_after`), how many bytes a root has at last
 //! (`capacity_after`), what a root place tells of its notes (`told_of_each`), whether two lists of bytes
-//! are the same (`same_bytes`), the size classes and the limits of a shape.
+//! are the same (`same_bytes`), and the size classes.
 
 mod arena;
 mod bin;
 mod cache;
 mod chunk;
 mod elements;
-mod limits;
 mod lists;
 mod objects;
 mod page_runs;
@@ -28,7 +27,6 @@ mod told;
 
 pub use arena::Arena;
 pub use cache::Cache;
-pub use limits::is_shape;
 pub use lists::same_list;
 pub use objects::{accepts, arena_after, capacity_after};
 pub use place::RootPlace;

@@ -201,8 +201,8 @@ impl Chunk {
             → (result ≡ freed_by out.element.subpage.elements out.index)
             × (self.new ≡ element_back self.old out.page out.element.subpage out.index) }
     {
-        // The pages of a chunk, which is opened here, have room in a word.
-        let _ = &self.slots;
+        // A chunk has so few bytes that a word has room for each of its pages.
+        prove!(self.bytes <= 1 << 24);
         let (page, _, _, sub, index) = place_unpack(word);
         if sub {
             return self.give_element(piece, page, index);

@@ -3,6 +3,7 @@
 
 mod command;
 mod id;
+mod limits;
 mod list;
 mod named;
 mod note;
@@ -11,6 +12,7 @@ mod run;
 
 pub use command::{Command, Trace};
 pub use id::{Parcel, Part, Place, Region, RegionId, RootId, ViewData};
+pub use limits::is_shape;
 pub use list::{
     Bytes, ChunkEnds, CommandList, CommandLists, Items, LaneLogs, LeakList, NameList, NoteList,
     Records, ReplyList,

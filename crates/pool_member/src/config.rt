@@ -4,8 +4,7 @@ ghost use Rattle.std.specs.Prelude.{◌≡◌, ◌-◌, ◌/◌, ◌^◌, max, M
 ghost use Rattle.pool_member.specs.Configs.{IsLayoutOf, IsRefused};
 
 use crate::answers::OpenNo;
-use crate::limits::is_shape;
-use pool_law::{Level, Shape};
+use pool_law::{Level, Shape, is_shape};
 use pool_table::Layout;
 use size_classes::DEFAULT_PAGE;
 

@@ -8,7 +8,6 @@ mod answers;
 mod closing;
 mod config;
 mod counts;
-mod limits;
 mod member;
 mod opening;
 mod pending;

@@ -21,8 +21,8 @@ use crate::lanes::{
 use crate::leaks::{Report, first_misreported};
 use crate::tally::tallies_of;
 use crate::totals::first_mistotaled;
-use object_steps::{PlaceTold, Sizes, is_shape};
-use pool_law::Run;
+use object_steps::{PlaceTold, Sizes};
+use pool_law::{Run, is_shape};
 use std::alloc::{AllocError, Global};
 
 // Whether a run has commands and a log for each lane.

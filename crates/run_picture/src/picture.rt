@@ -21,8 +21,8 @@ use crate::surroundings::surroundings_of;
 use crate::svg::svg_of;
 use crate::thinning::{BLOCK_LIMIT, least_for_blocks, least_for_spans};
 use crate::uses::{Span, spans_of};
-use object_steps::{Sizes, is_shape};
-use pool_law::{Bytes, LaneLog, Note, Object, Run};
+use object_steps::Sizes;
+use pool_law::{Bytes, LaneLog, Note, Object, Run, is_shape};
 use std::alloc::{AllocError, Global};
 
 /// Where the strips begin, in tenths of a pixel.

@@ -136,9 +136,8 @@ impl SizeClasses {
         ensures none { IsNone result ↔ (chunk_bytes self.now < n) }
         ensures within { IfSome result (λ class. class < class_count self.now) }
     {
-        let _ = &self.order;
         let class = self.least_class(n);
-        if class < self.count() {
+        if (class as usize) < self.sizes.len() {
             Some(class)
         } else {
             None
@@ -186,7 +185,7 @@ impl SizeClasses {
         requires { (1 ≤ pages) × (pages ≤ chunk_pages self.now) }
         ensures { page_class_up self.now pages ≡ Some result }
     {
-        let _ = &self.order;
+        prove!(pages <= 2u32.pow(self.order));
         first_at_least(pages)
     }
 
@@ -196,7 +195,7 @@ impl SizeClasses {
         // The page classes up to it are all those of at most so many pages.
         ensures { result + 1 ≡ page_classes_up_to self.now pages }
     {
-        let _ = &self.order;
+        prove!(pages <= 2u32.pow(self.order));
         last_at_most(pages)
     }
 

@@ -4,7 +4,7 @@ ghost use Rattle.std.specs.Prelude.{◌≡◌, ◌*◌, ◌^◌, ◌≤◌, ◌�
 ghost use Rattle.size_classes.specs.Sizes.{IsPage, chunk_bytes};
 ghost use Rattle.pool_law.specs.Limits.{IsShape, geometry_of};
 
-use pool_law::Shape;
+use crate::run::Shape;
 
 // The most bytes that a chunk may have.
 const MOST_CHUNK_BYTES: u64 = 16_777_216;

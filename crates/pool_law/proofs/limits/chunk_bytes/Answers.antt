@@ -1,6 +1,6 @@
 use Rattle.std.proofs.Common.{◌^◌, ◌≤◌, lit<, arith}
 use Rattle.std.proofs.Math.Nat.{mul-le-mul_left, mul-le-mul_right, pow-le-pow_right}
-use Rattle.pool_member.proofs.limits.chunk_bytes.Goals as goal
+use Rattle.pool_law.proofs.limits.chunk_bytes.Goals as goal
 
 pub returns-clause-within : goal.returns-clause-within
 returns-clause-within c =
