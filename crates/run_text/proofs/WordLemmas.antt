@@ -41,13 +41,13 @@ lacks_at mark text h i low =
     eqb-false (get_or text i 0) mark (not-true _ (AllPass-from_list_all (λ b. not (b == mark)) text h i 0 low))
 
 -- two texts that lack a mark lack it one behind the other
-lacks-append : (mark : ℕ) (a b : Text) → lacks mark a ≡ true → lacks mark b ≡ true → lacks mark (a ++ b) ≡ true
+pub lacks-append : (mark : ℕ) (a b : Text) → lacks mark a ≡ true → lacks mark b ≡ true → lacks mark (a ++ b) ≡ true
 lacks-append mark a b h k =
     list_all-append (λ x. not (x == mark)) a b
     ∙ ap (λ (t : Bool). t && lacks mark b) h
     ∙ k
 
-lacks-cons : (mark x : ℕ) (b : Text) → x ≢ mark → lacks mark b ≡ true → lacks mark (x ∷ b) ≡ true
+pub lacks-cons : (mark x : ℕ) (b : Text) → x ≢ mark → lacks mark b ≡ true → lacks mark (x ∷ b) ≡ true
 lacks-cons mark x b apart k = ap (λ (t : Bool). not t && lacks mark b) (ne_eqb x mark apart) ∙ k
 
 -- ---- Where a text is cut at its first mark.
@@ -75,7 +75,8 @@ module _ (text : Text) (r : Option (Bor (List ℕ) × Bor (List ℕ))) (split : 
       → is_word word ≡ true → text ≡ spaced (word ∷ more) → (x.0.now ≡ word) × (x.1.now ≡ spaced more)
   before_space x is word [] free e =
       absurd (not_cut 32 (omega arith) text r split x is (ap (lacks 32) e ∙ free))
-  before_space x is word (next ∷ more) free e = cut 32 (omega arith) text r split x is word (spaced (next ∷ more)) free
+  before_space x is word (next ∷ more) free e = cut 32 (omega arith) text r split x is word (spaced (next ∷ more))
+    free
       e
 
   pub without_space : r ≡ None → (word : Text) (more : List Text) → is_word word ≡ true
@@ -109,7 +110,8 @@ place_parts p = append_assoc (decimal p.arena) (46 ∷ decimal p.chunk) (43 ∷ 
 pub is_word-place : (p : Place) → p.arena < 2 ^ 32 → p.chunk < 2 ^ 32 → p.offset < 2 ^ 32
     → is_word (shown_place p) ≡ true
 is_word-place p a c o =
-    lacks-append 32 (dotted p.arena p.chunk) (43 ∷ decimal p.offset) (is_word-pair 46 p.arena p.chunk (omega arith) a c)
+    lacks-append 32 (dotted p.arena p.chunk) (43 ∷ decimal p.offset)
+    (is_word-pair 46 p.arena p.chunk (omega arith) a c)
     (lacks-cons 32 43 (decimal p.offset) (omega arith) (lacks-decimal 32 p.offset (omega arith) (omega arith)))
 
 -- what lacks a mark is no two numbers with it between them

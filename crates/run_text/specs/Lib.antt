@@ -1,3 +1,5 @@
+pub mod Answering
+pub mod Ending
 pub mod Reading
 pub mod Reads
 pub mod Told
