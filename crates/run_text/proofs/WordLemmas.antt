@@ -75,8 +75,7 @@ module _ (text : Text) (r : Option (Bor (List ℕ) × Bor (List ℕ))) (split : 
       → is_word word ≡ true → text ≡ spaced (word ∷ more) → (x.0.now ≡ word) × (x.1.now ≡ spaced more)
   before_space x is word [] free e =
       absurd (not_cut 32 (omega arith) text r split x is (ap (lacks 32) e ∙ free))
-  before_space x is word (next ∷ more) free e = cut 32 (omega arith) text r split x is word (spaced (next ∷ more))
-    free
+  before_space x is word (next ∷ more) free e = cut 32 (omega arith) text r split x is word (spaced (next ∷ more)) free
       e
 
   pub without_space : r ≡ None → (word : Text) (more : List Text) → is_word word ≡ true
@@ -110,8 +109,7 @@ place_parts p = append_assoc (decimal p.arena) (46 ∷ decimal p.chunk) (43 ∷ 
 pub is_word-place : (p : Place) → p.arena < 2 ^ 32 → p.chunk < 2 ^ 32 → p.offset < 2 ^ 32
     → is_word (shown_place p) ≡ true
 is_word-place p a c o =
-    lacks-append 32 (dotted p.arena p.chunk) (43 ∷ decimal p.offset)
-    (is_word-pair 46 p.arena p.chunk (omega arith) a c)
+    lacks-append 32 (dotted p.arena p.chunk) (43 ∷ decimal p.offset) (is_word-pair 46 p.arena p.chunk (omega arith) a c)
     (lacks-cons 32 43 (decimal p.offset) (omega arith) (lacks-decimal 32 p.offset (omega arith) (omega arith)))
 
 -- what lacks a mark is no two numbers with it between them

@@ -1,5 +1,16 @@
 //! What the notes tell of roots and regions.
 
+ghost use Rattle.std.specs.Prelude.{◌≡◌, ◌++◌, ◌∷◌, ◌<◌, [], ℕ, List, Some, IfOk, OnOk};
+ghost use Rattle.std.specs.Option.{option_map, option_or};
+ghost use Rattle.std.specs.BTreeMap as tree;
+ghost use Rattle.std.specs.HashMap as hash;
+ghost use Rattle.pool_law.specs.declared.id.RegionId.{RegionId};
+ghost use Rattle.pool_law.specs.declared.note.Note.{Note};
+ghost use Rattle.size_classes.specs.Sizes.{class_count, size_at};
+ghost use Rattle.run_text.specs.Told.{note_told};
+ghost use Rattle.run_text.specs.Lines.{Line, begun_before, formed, keyed, last_born, left, region_with, root_key, same_key, taking_key, uses_after};
+ghost use Rattle.run_text.specs.Knowing.{Knows, TellsTaking, TellsUse, begin_told, birth_told, key_cmp, taking_told, use_of};
+
 use pool_law::{Did, Note, Object, Place, RegionId, RootId};
 use size_classes::SizeClasses;
 use std::alloc::{AllocError, Global};
@@ -9,25 +20,23 @@ use std::collections::{BTreeMap, HashMap};
 pub type RootKey = (u32, u32);
 
 /// Place and generation of a root.
-pub fn key_of(root: &RootId) -> RootKey {
+pub fn key_of(root: &RootId) -> RootKey
+    ensures { result ≡ root_key root.now }
+{
     (root.place, root.generation)
 }
 
 /// Arena and number of a taking.
 pub type TakingKey = (u32, u64);
 
-/// A region, and how often it is used.
-#[derive(Clone, Copy, Drop)]
-pub struct Taking {
-    /// The region as it was taken.
-    pub region: RegionId,
-    /// The uses that its last birth or growth tells.
-    pub uses: u64,
-    /// The uses that the last birth or growth tells which was passed so far.
-    pub so_far: u64,
+/// Arena and number of the taking of a region.
+pub fn taking_key(region: &RegionId) -> TakingKey
+    ensures { result ≡ taking_key region.now }
+{
+    (region.place.arena, region.taking)
 }
 
-/// The use of a region that a birth or a growth begins.
+/// A use of a region, which a birth or a growth begins.
 #[derive(Clone, Copy, Drop)]
 pub struct Use {
     /// The taking of the region.
@@ -36,10 +45,54 @@ pub struct Use {
     pub uses: u64,
 }
 
-fn use_of(region: &RegionId) -> Use {
-    Use {
-        taking: (region.place.arena, region.taking),
-        uses: region.uses,
+// What the line of a taking tells: its arena, its class, and the region.
+fn taking_told(note: &Note) -> Option<(u32, u32, RegionId)>
+    ensures { result ≡ taking_told note.now }
+{
+    match note {
+        Note::At {
+            object: Object::Arena(arena),
+            did: Did::Take { class, region },
+            ..
+        } => Some((*arena, *class, *region)),
+        _ => None,
+    }
+}
+
+// The root whose birth a line tells.
+fn birth_told(note: &Note) -> Option<RootId>
+    ensures { result ≡ birth_told note.now }
+{
+    match note {
+        Note::At {
+            object: Object::Root(place),
+            did: Did::Birth { root, .. },
+            ..
+        } => Some(RootId {
+            place: *place,
+            generation: root.generation,
+            capacity: root.capacity,
+        }),
+        _ => None,
+    }
+}
+
+// What the line of a birth or a growth tells: the root's place, the number of the note there, and the region.
+fn begin_told(note: &Note) -> Option<(u32, u64, RegionId)>
+    ensures { result ≡ begin_told note.now }
+{
+    match note {
+        Note::At {
+            object: Object::Root(place),
+            number,
+            did: Did::Birth { region, .. },
+        } => Some((*place, *number, *region)),
+        Note::At {
+            object: Object::Root(place),
+            number,
+            did: Did::Grow { region, .. },
+        } => Some((*place, *number, *region)),
+        _ => None,
     }
 }
 
@@ -47,8 +100,10 @@ fn use_of(region: &RegionId) -> Use {
 #[derive(Drop)]
 pub struct Known {
     sizes: SizeClasses,
-    takings: HashMap<TakingKey, Taking>,
+    takings: HashMap<TakingKey, RegionId>,
     births: HashMap<RootKey, RootId>,
+    // The uses that the last birth or growth tells of each taking.
+    uses: HashMap<TakingKey, u64>,
     // The uses that begin at each root place, by place and number.
     begun: BTreeMap<(u32, u64), Use>,
 }
@@ -58,23 +113,18 @@ const ALL_CLASSES: (u32, u32) = (9, 32_768);
 
 impl Known {
     /// Nothing is known.
-    pub fn new(alloc: Global) -> Result<Known, AllocError> {
+    pub fn new(alloc: Global) -> Result<Known, AllocError>
+        ensures { IfOk result (λ known. Knows known [] []) }
+    {
         let (order, page) = ALL_CLASSES;
+        let sizes = SizeClasses::new(alloc, order, page)?;
         Ok(Known {
-            sizes: SizeClasses::new(alloc, order, page)?,
+            sizes,
             takings: HashMap::new(alloc),
             births: HashMap::new(alloc),
+            uses: HashMap::new(alloc),
             begun: BTreeMap::new(alloc),
         })
-    }
-
-    // The bytes of a class, where any pool has it.
-    fn size_of(&self, class: u32) -> Option<u32> {
-        if class < self.sizes.count() {
-            Some(self.sizes.size_of(class))
-        } else {
-            None
-        }
     }
 
     /// A region that a lane takes of an arena, by what its line tells: class, spot and number.
@@ -84,14 +134,19 @@ impl Known {
         arena: u32,
         class: u32,
         told: &RegionId,
-    ) -> Option<RegionId> {
-        let len = self.size_of(class)?;
+    ) -> Option<RegionId>
+        ensures { class < class_count self.now.sizes
+            → result ≡ Some (formed lane arena class told.now) }
+    {
+        if class >= self.sizes.count() {
+            return None;
+        }
         Some(RegionId {
             place: Place {
                 arena,
                 chunk: told.place.chunk,
                 offset: told.place.offset,
-                len,
+                len: self.sizes.size_of(class),
             },
             class,
             owner: lane,
@@ -101,101 +156,102 @@ impl Known {
     }
 
     /// What a line tells of a taking is known.
-    pub fn learn_taking(&mut self, lane: u32, told: &Note) -> Result<(), AllocError> {
-        if let Note::At {
-            object: Object::Arena(arena),
-            did: Did::Take { class, region },
-            ..
-        } = told
-            && let Some(region) = self.region_taken(lane, *arena, *class, region)
-        {
-            let taking = Taking {
-                region,
-                uses: 0,
-                so_far: 0,
-            };
-            self.takings.insert((*arena, region.taking), taking)?;
-        }
+    pub fn learn_taking(&mut self, lane: u32, told: &Note) -> Result<(), AllocError>
+        ensures { (note : Note) (lines : List Line) → told.now ≡ note_told note
+            → TellsTaking lane note → Knows self.old lines []
+            → OnOk result (Knows self.new (lines ++ (lane, note) ∷ []) []) }
+    {
+        let Some((arena, class, region)) = taking_told(told) else {
+            return Ok(());
+        };
+        let Some(region) = self.region_taken(lane, arena, class, &region) else {
+            return Ok(());
+        };
+        self.takings.insert(taking_key(&region), region)?;
         Ok(())
     }
 
     /// What a line tells of a birth or a growth is known, once all takings are.
-    pub fn learn_use(&mut self, told: &Note) -> Result<(), AllocError> {
-        if let Note::At {
-            object: Object::Root(place),
-            number,
-            did,
-        } = told
-        {
-            match did {
-                Did::Birth { root, region } => {
-                    let born = RootId {
-                        place: *place,
-                        ..*root
-                    };
-                    self.births.insert(key_of(&born), born)?;
-                    self.learn_begun(*place, *number, use_of(region))?;
-                }
-                Did::Grow { region, .. } => self.learn_begun(*place, *number, use_of(region))?,
-                _ => {}
-            }
+    pub fn learn_use(&mut self, told: &Note) -> Result<(), AllocError>
+        ensures { (lane : ℕ) (note : Note) (all lines : List Line) → told.now ≡ note_told note
+            → TellsUse note → Knows self.old all lines
+            → OnOk result (Knows self.new all (lines ++ (lane, note) ∷ [])) }
+    {
+        self.learn_birth(birth_told(told))?;
+        self.learn_begun(begin_told(told))
+    }
+
+    fn learn_birth(&mut self, born: Option<RootId>) -> Result<(), AllocError>
+        ensures births { (key : ℕ × ℕ) → OnOk result (hash.get same_key self.new.births key
+            ≡ option_or (keyed root_key key born) (hash.get same_key self.old.births key)) }
+        ensures rest { self.new ≡ record self.old { births = self.new.births } }
+    {
+        if let Some(root) = born {
+            self.births.insert(key_of(&root), root)?;
         }
         Ok(())
     }
 
-    fn learn_begun(&mut self, place: u32, number: u64, begun: Use) -> Result<(), AllocError> {
-        if let Some(taking) = self.takings.get_mut(&begun.taking) {
-            taking.uses = begun.uses;
+    fn learn_begun(&mut self, begun: Option<(u32, u64, RegionId)>) -> Result<(), AllocError>
+        ensures uses { (key : ℕ × ℕ) → OnOk result (hash.get same_key self.new.uses key
+            ≡ option_or (option_map (λ b. b.2.uses) (keyed (λ b. taking_key b.2) key begun))
+            (hash.get same_key self.old.uses key)) }
+        ensures begun { (key : ℕ × ℕ) → OnOk result (tree.get key_cmp self.new.begun key
+            ≡ option_or (option_map (λ b. use_of b.2) (keyed (λ b. (b.0, b.1)) key begun))
+            (tree.get key_cmp self.old.begun key)) }
+        ensures rest { self.new
+            ≡ record self.old { uses = self.new.uses; begun = self.new.begun } }
+    {
+        if let Some((place, number, region)) = begun {
+            let begun = Use {
+                taking: taking_key(&region),
+                uses: region.uses,
+            };
+            self.uses.insert(begun.taking, begun.uses)?;
+            self.begun.insert((place, number), begun)?;
         }
-        self.begun.insert((place, number), begun)?;
         Ok(())
     }
 
     /// The root of this place and generation.
-    pub fn born(&self, key: RootKey) -> Option<RootId> {
+    pub fn born(&self, key: RootKey) -> Option<RootId>
+        ensures { (all lines : List Line) → Knows self.now all lines
+            → result ≡ last_born lines key }
+    {
         self.births.get(&key).copied()
     }
 
-    /// The use that a root place had before the note of this number there.
-    pub fn use_before(&self, place: u32, number: u64) -> Option<Use> {
+    /// The region of a taking, used so often.
+    pub fn region(&self, taking: TakingKey, uses: u64) -> Option<RegionId>
+        ensures { (all lines : List Line) → Knows self.now all lines
+            → result ≡ region_with all taking uses }
+    {
+        let region = self.takings.get(&taking)?;
+        Some(RegionId { uses, ..*region })
+    }
+
+    /// The uses that the last birth or growth tells of a taking.
+    pub fn uses_of(&self, taking: TakingKey) -> u64
+        ensures { (all lines : List Line) → Knows self.now all lines
+            → result ≡ uses_after lines taking }
+    {
+        self.uses.get(&taking).copied().unwrap_or(0)
+    }
+
+    // The use that a root place had before the note of this number there.
+    fn use_before(&self, place: u32, number: u64) -> Option<Use>
+        ensures { (all lines : List Line) → Knows self.now all lines
+            → result ≡ option_map (λ b. use_of b.1) (begun_before lines place number) }
+    {
         let (key, begun) = self.begun.range(..(place, number)).next_back()?;
         if key.0 == place { Some(*begun) } else { None }
     }
 
-    /// The region of a taking, used so often.
-    pub fn region(&self, begun: Use) -> Option<RegionId> {
-        let taking = self.takings.get(&begun.taking)?;
-        Some(RegionId {
-            uses: begun.uses,
-            ..taking.region
-        })
-    }
-
-    /// The region of a taking, after its last use.
-    pub fn region_used(&self, key: TakingKey) -> Option<RegionId> {
-        let taking = self.takings.get(&key)?;
-        Some(RegionId {
-            uses: taking.uses,
-            ..taking.region
-        })
-    }
-
-    /// The region of a taking, after the uses that were passed so far. All uses of a taking begin in the lane
-    /// that took it, so its notes tell them in their order.
-    pub fn region_so_far(&self, key: TakingKey) -> Option<RegionId> {
-        let taking = self.takings.get(&key)?;
-        Some(RegionId {
-            uses: taking.so_far,
-            ..taking.region
-        })
-    }
-
-    /// The region of a use that begins, by what its line tells: the use is passed now.
-    pub fn begin(&mut self, told: &RegionId) -> Option<RegionId> {
-        let begun = use_of(told);
-        if let Some(taking) = self.takings.get_mut(&begun.taking) {
-            taking.so_far = begun.uses;
-        }
-        self.region(begun)
+    /// The region that a root place leaves at the note of this number there.
+    pub fn left(&self, place: u32, number: u64) -> Option<RegionId>
+        ensures { (all : List Line) → Knows self.now all all → result ≡ left all place number }
+    {
+        let begun = self.use_before(place, number)?;
+        self.region(begun.taking, begun.uses)
     }
 }

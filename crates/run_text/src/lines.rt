@@ -1,18 +1,20 @@
 //! The lines of a text.
 
-ghost use Rattle.std.specs.Prelude.{◌≡◌, ◌≤◌, length};
+ghost use Rattle.std.specs.Prelude.{◌≡◌, ◌+◌, ◌++◌, length, map, List, slice_get, IfOk, MatchResult, Some};
+ghost use Rattle.std.specs.List.{All};
+ghost use Rattle.std.specs.Str.Lines.{lines};
+ghost use Rattle.pool_law.specs.Text.{Text};
+ghost use Rattle.run_text.specs.Starting.{Begins, BeginsNot};
 
 use crate::words::Words;
 use crate::{LineNo, TextNo};
 use std::alloc::{AllocError, Global};
 
 /// The lines of a text, in order.
-pub fn lines_of(alloc: Global, text: &str) -> Result<Vec<&str>, AllocError> {
-    let mut lines = Vec::new(alloc);
-    for line in text.lines() {
-        lines.push(line)?;
-    }
-    Ok(lines)
+pub fn lines_of(alloc: Global, text: &str) -> Result<Vec<&str>, AllocError>
+    ensures { IfOk result (λ list. map (λ l. l.now) list.items ≡ lines text.now) }
+{
+    text.lines().collect(alloc)
 }
 
 /// The number of the line behind so many, or the greatest number.
@@ -21,7 +23,10 @@ pub fn number_behind(count: usize) -> u32 {
 }
 
 /// The words of the line behind so many.
-pub fn words_behind<'a>(lines: &[&'a str], count: usize) -> Result<Words<'a>, TextNo> {
+pub fn words_behind<'a>(lines: &[&'a str], count: usize) -> Result<Words<'a>, TextNo>
+    ensures { (text : Text) → slice_get (map (λ l. l.now) lines.now) count ≡ Some text
+        → MatchResult result (λ words. words.rest.now ≡ text) (λ no. ⊥) }
+{
     let number = number_behind(count);
     match lines.get(count) {
         Some(line) => Ok(Words::of(*line, number)),
@@ -33,7 +38,12 @@ pub fn words_behind<'a>(lines: &[&'a str], count: usize) -> Result<Words<'a>, Te
 }
 
 /// How many lines stand before the first, from so many on, that doesn't begin so.
-pub fn end_of(lines: &[&str], from: usize, first: &str) -> usize {
+pub fn end_of(lines: &[&str], from: usize, first: &str) -> usize
+    ensures { (front middle back : List Text)
+        → map (λ l. l.now) lines.now ≡ front ++ (middle ++ back) → length front ≡ from
+        → All (Begins first.now) middle → BeginsNot first.now back
+        → result ≡ from + length middle }
+{
     let mut end = from;
     for at in from..lines.len() {
         if !lines[at].starts_with(first) {

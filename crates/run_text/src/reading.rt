@@ -1,7 +1,12 @@
 //! From a text to its run.
 
-ghost use Rattle.std.specs.Prelude.{◌≡◌, length, map, IsTrue, IfOk};
+ghost use Rattle.std.specs.Prelude.{◌≡◌, ◌+◌, ◌++◌, length, map, List, IsTrue, IfOk, MatchResult};
+ghost use Rattle.std.specs.List.{All};
+ghost use Rattle.pool_law.specs.Text.{Text};
+ghost use Rattle.run_text.specs.Knowing.{FitsLine, line_text, line_told};
+ghost use Rattle.run_text.specs.Lines.{Line};
 ghost use Rattle.run_text.specs.Reads.{Reads};
+ghost use Rattle.run_text.specs.declared.TextNo.TheVariants.{Memory};
 
 use crate::cutting::answered_by;
 use crate::ends::{chunks_of, leaks_of};
@@ -104,6 +109,7 @@ fn notes_of(
             Ok(note) => note,
             Err(why) => return Err(refusal_of(at, why)),
         };
+        filler.pass(&note)?;
         match all.get_mut(lane as usize) {
             Some(log) => log.push(note).map_err(AllocError::from)?,
             None => return Err(refusal_of(at, LineNo::Form)),
@@ -123,10 +129,16 @@ fn told_in(
     lines: &[&str],
     from: usize,
     to: usize,
-) -> Result<Vec<(u32, Note)>, TextNo> {
+) -> Result<Vec<(u32, Note)>, TextNo>
+    ensures { (front back : List Text) (notes : List Line)
+        → map (λ l. l.now) lines.now ≡ front ++ (map line_text notes ++ back)
+        → length front ≡ from → from + length notes ≡ to → All FitsLine notes
+        → MatchResult result (λ told. told.items ≡ map line_told notes) (λ no. no ≡ Memory) }
+{
     let mut told = Vec::new(alloc);
     for at in from..to {
-        let note = note_line(alloc, &mut words_behind(lines, at)?)?;
+        let mut words = words_behind(lines, at)?;
+        let note = note_line(alloc, &mut words)?;
         told.push(note).map_err(AllocError::from)?;
     }
     Ok(told)
