@@ -1,5 +1,5 @@
 -- The lines of chunks and leaks.
-use Rattle.std.proofs.Common.{◌≡◌, ℕ, ◌+◌, ◌<◌, ◌^◌, List, [], ◌∷◌, ◌++◌, length, map, refl, sym, ap, ◌∙◌, arith, true, codes, decimal}
+use Rattle.std.proofs.Common.{◌≡◌, ℕ, ◌<◌, ◌^◌, List, [], ◌∷◌, length, refl, arith, true, codes, decimal}
 use Rattle.pool_law.specs.declared.report.Access.{Access}
 use Rattle.pool_law.specs.declared.report.Leak.{Leak}
 use Rattle.pool_law.specs.declared.report.ChunkEnd.{ChunkEnd}

@@ -1,7 +1,7 @@
 -- The lines of leaks, one leak behind the other.
-use Rattle.std.proofs.Common.{◌≡◌, ℕ, zero, suc, ◌+◌, ◌-◌, ◌<◌, ◌≤◌, List, [], ◌∷◌, ◌++◌, length, get_or, map, take, drop, Some, codes, decimal, refl, sym, ap, ◌∙◌, arith, length-append, append_assoc, true, false, Bool}
-use Rattle.std.specs.Prelude.{nat_eq, not, slice_get}
-use Rattle.std.specs.List.{All, starts_with}
+use Rattle.std.proofs.Common.{◌≡◌, ℕ, zero, suc, ◌+◌, ◌<◌, ◌≤◌, List, [], ◌∷◌, ◌++◌, length, get_or, map, take, drop, Some, codes, refl, sym, ap, ◌∙◌, arith, length-append, append_assoc, true, false, Bool}
+use Rattle.std.specs.Prelude.{not, slice_get}
+use Rattle.std.specs.List.{All}
 use Rattle.std.specs.Str.{bytes_eq}
 use Rattle.std.proofs.lemmas.Bool.{false≢true}
 use Rattle.std.proofs.lemmas.List.{length-map, take_more}

@@ -1,7 +1,7 @@
 -- The lines of replies, and their words.
 use Rattle.std.specs.Prelude.{slice_get, map, Some}
 use Rattle.std.proofs.lemmas.List.{map-append, take_more}
-use Rattle.std.proofs.Common.{append-nil, ◌≢◌, ◌≤◌, ◌≡◌, ℕ, suc, ◌+◌, ◌<◌, ◌^◌, Bool, true, false, List, [], ◌∷◌, ◌++◌, length, get_or, take, drop, refl, sym, ap, ◌∙◌, arith, codes, decimal, zero, length-append, append_assoc, subst, Result, Ok, Err}
+use Rattle.std.proofs.Common.{append-nil, ◌≢◌, ◌≡◌, ℕ, suc, ◌+◌, ◌<◌, ◌^◌, true, false, List, [], ◌∷◌, ◌++◌, length, get_or, take, drop, refl, sym, ap, ◌∙◌, arith, codes, decimal, zero, length-append, append_assoc, subst, Result, Ok, Err}
 use Rattle.pool_law.specs.declared.command.Command.{Command}
 use Rattle.pool_law.specs.declared.run.Reply.{Reply}
 use Rattle.pool_law.specs.Text.{Text, command_word, dotted, reply_words, spaced}

@@ -1,5 +1,5 @@
 -- The lines of chunks and leaks, and whether their numbers are of their types.
-use Rattle.std.specs.Prelude.{ℕ, ◌^◌, ◌<◌, List, [], ◌∷◌, ◌++◌, codes, decimal, length, map}
+use Rattle.std.specs.Prelude.{◌^◌, ◌<◌, List, [], ◌∷◌, ◌++◌, codes, decimal, length, map}
 use Rattle.std.specs.List.{All}
 use Rattle.pool_law.specs.declared.report.ChunkEnd.{ChunkEnd}
 use Rattle.pool_law.specs.declared.report.Access.{Access}

@@ -1,4 +1,4 @@
-use Rattle.std.proofs.Common.{◌≡◌, ◌∷◌, ◌∙◌, [], codes, decimal, refl}
+use Rattle.std.proofs.Common.{◌∷◌, ◌∙◌, [], codes, decimal, refl}
 use Rattle.pool_law.specs.declared.report.Access.{Access}
 use Rattle.pool_law.specs.Text.{plus}
 use Rattle.run_text.proofs.EndLemmas.{from_word, lane_low, lane_of, space_first}

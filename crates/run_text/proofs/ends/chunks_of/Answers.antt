@@ -1,5 +1,4 @@
-use Rattle.std.proofs.Common.{◌≡◌, ◌++◌, ◌∷◌, [], ◌-◌, get_or, rules, ◌∙◌, arith}
-use Rattle.pool_law.specs.declared.report.ChunkEnd.{ChunkEnd}
+use Rattle.std.proofs.Common.{◌≡◌, ◌++◌, ◌∷◌, [], ◌-◌, get_or, rules}
 use Rattle.run_text.specs.Ending.{chunk_text}
 use Rattle.run_text.proofs.EndLemmas.{no_chunk}
 use Rattle.run_text.proofs.LineLemmas.{refused_on}

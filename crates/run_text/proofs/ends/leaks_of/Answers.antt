@@ -1,7 +1,6 @@
-use Rattle.std.proofs.Common.{◌≡◌, ◌+◌, ◌-◌, ◌<◌, ◌++◌, ◌∷◌, ℕ, [], List, Bor, codes, inl, inr, ap, get_or, length, map, refl, rules, sym, ◌∙◌, arith, length-append}
+use Rattle.std.proofs.Common.{◌≡◌, ◌+◌, ◌-◌, ◌++◌, ◌∷◌, ℕ, [], List, Bor, codes, inl, inr, ap, get_or, length, map, refl, rules, ◌∙◌, arith, length-append}
 use Rattle.std.proofs.lemmas.Bool.{cases_lt}
 use Rattle.std.proofs.lemmas.List.{length-map, take_all}
-use Rattle.pool_law.specs.Text.{spaced}
 use Rattle.run_text.specs.Ending.{access_text, leak_words, leaks_texts}
 use Rattle.run_text.proofs.LeakLemmas.{accesses_begin, accesses_from, accesses_there, before_accesses, is_room, last_here, last_text, leak_here, lines_many, many_accesses, next_at, no_access_first, no_leak, not_end, not_leak, one_more_leak, rest}
 use Rattle.run_text.proofs.LineLemmas.{refused_on}

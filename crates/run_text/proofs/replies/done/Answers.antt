@@ -1,4 +1,4 @@
-use Rattle.std.proofs.Common.{◌≡◌, ◌∷◌, ◌++◌, ◌∙◌, [], decimal, refl, sym, ap, List}
+use Rattle.std.proofs.Common.{◌∷◌, ◌++◌, ◌∙◌, refl, sym, ap, List}
 use Rattle.pool_law.specs.declared.run.Reply.{Reply}
 use Rattle.pool_law.specs.Text.{Text, reply_words, shown_place, spaced}
 use Rattle.run_text.proofs.ReplyLemmas.{behind_ok, not_bare, not_bytes, not_number, other_first, tale_is}

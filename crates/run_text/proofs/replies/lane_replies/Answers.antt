@@ -1,4 +1,4 @@
-use Rattle.std.proofs.Common.{◌≡◌, ℕ, List, ◌++◌, ◌∷◌, ◌+◌, ◌<◌, [], get_or, rules, ◌∙◌, arith, Bor}
+use Rattle.std.proofs.Common.{◌≡◌, ℕ, List, ◌++◌, ◌∷◌, [], get_or, rules, ◌∙◌, arith, Bor}
 use Rattle.std.proofs.lemmas.List.{length-map, take_all}
 use Rattle.pool_law.specs.Text.{command_word, dotted, reply_words}
 use Rattle.run_text.proofs.ReplyLemmas.{fits_here, is_word-command, is_word-dotted, line_here, no_reply, one_more_reply, replies_many, room}

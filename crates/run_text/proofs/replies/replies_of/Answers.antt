@@ -1,6 +1,5 @@
-use Rattle.std.proofs.Common.{◌≡◌, ◌+◌, ◌++◌, ◌∷◌, ℕ, [], List, ap, get_or, length, map, rules, sym, take, ◌∙◌, arith}
+use Rattle.std.proofs.Common.{◌≡◌, ◌+◌, ◌++◌, ◌∷◌, [], get_or, length, rules, ◌∙◌, arith}
 use Rattle.std.proofs.lemmas.List.{take_all}
-use Rattle.pool_law.specs.declared.run.Reply.{Reply}
 use Rattle.run_text.specs.Answering.{lanes_texts}
 use Rattle.run_text.proofs.ReplyLemmas.{behind_lane, before_lane, fits_lane, is_lane, lanes_many, lanes_more, lane_long, one_more_lane}
 use Rattle.run_text.proofs.LineLemmas.{refused_on}

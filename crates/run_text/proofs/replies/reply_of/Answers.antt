@@ -1,4 +1,4 @@
-use Rattle.std.proofs.Common.{◌≡◌, ◌∷◌, ◌++◌, [], codes, decimal, refl, sym, ap}
+use Rattle.std.proofs.Common.{◌∷◌, ◌++◌, [], codes, decimal, refl, sym, ap}
 use Rattle.pool_law.specs.declared.run.Reply.{Reply}
 use Rattle.pool_law.specs.Text.{Text, reply_words, shown_bytes, shown_place}
 use Rattle.run_text.proofs.ReplyLemmas.{refused_so}
