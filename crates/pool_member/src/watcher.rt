@@ -66,9 +66,18 @@ impl Watcher {
         self.draw()
     }
 
-    // The same, where the next birth may be sampled.
-    #[inline(never)]
+    // The same, where the next birth may be sampled. Here the place for the answer of the call is
+    // made, and not at the head of each allocation.
+    #[inline(always)]
     fn draw(&self) -> Option<Watch>
+        ensures { result ≡ watch_next self.now }
+    {
+        self.draw_apart()
+    }
+
+    // The same: seldom, so apart.
+    #[inline(never)]
+    fn draw_apart(&self) -> Option<Watch>
         ensures { result ≡ watch_next self.now }
     {
         if self.births == u32::MAX {

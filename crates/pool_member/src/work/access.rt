@@ -47,9 +47,33 @@ pub fn try_set(
     }
 }
 
-/// The same, as often as another seat is in the way.
-#[inline(never)]
+/// The same, as often as another seat is in the way. Here the copy of the root is made that goes to
+/// the call, and not at the head of each access.
+#[inline(always)]
 pub fn wait_to_set<W: Wait>(
+    rt: &W,
+    pool: &SharedPool,
+    member: &mut Member,
+    root: RootId,
+    offset: u32,
+    bytes: &[u8],
+)
+    requires thread { IsThread pool.now member.old }
+    requires counts { 0 < counted member.old.account.counts root }
+    requires turns { 1 ≤ member.old.account.turns }
+    requires range { offset + length bytes.now ≤ known member.old.account.counts root }
+    ensures does { Does pool.now 1 no_change (Some root) member.old member.new }
+    ensures laid { LaysOver root offset bytes.now member.old member.new }
+    ensures moves { member.new.account.moves ≡ member.old.account.moves }
+    ensures noted { (number : ℕ) × IsNoted pool.now member.old.seat member.new.seat
+        (Root root.place) number (access root (Did.Set offset bytes.now)) }
+{
+    set_apart(rt, pool, member, root, offset, bytes);
+}
+
+// The same: seldom, so apart.
+#[inline(never)]
+fn set_apart<W: Wait>(
     rt: &W,
     pool: &SharedPool,
     member: &mut Member,
@@ -103,9 +127,34 @@ pub fn try_get(
     }
 }
 
-/// The same, as often as another seat is in the way.
-#[inline(never)]
+/// The same, as often as another seat is in the way. Here the copy of the root is made that goes to
+/// the call, and not at the head of each access.
+#[inline(always)]
 pub fn wait_to_get<W: Wait>(
+    rt: &W,
+    pool: &SharedPool,
+    member: &mut Member,
+    root: RootId,
+    offset: u32,
+    out: &mut [u8],
+)
+    requires thread { IsThread pool.now member.old }
+    requires counts { 0 < counted member.old.account.counts root }
+    requires turns { 1 ≤ member.old.account.turns }
+    requires range { offset + length out.old ≤ known member.old.account.counts root }
+    ensures does { Does pool.now 1 no_change None member.old member.new }
+    ensures own { AreLaid member.old root offset out.new }
+    ensures moves { member.new.account.moves ≡ member.old.account.moves }
+    ensures len { length out.new ≡ length out.old }
+    ensures noted { (number : ℕ) × IsNoted pool.now member.old.seat member.new.seat
+        (Root root.place) number (access root (Did.Get offset out.new)) }
+{
+    get_apart(rt, pool, member, root, offset, out);
+}
+
+// The same: seldom, so apart.
+#[inline(never)]
+fn get_apart<W: Wait>(
     rt: &W,
     pool: &SharedPool,
     member: &mut Member,

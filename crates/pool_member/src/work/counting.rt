@@ -48,7 +48,7 @@ pub fn release<W: Wait>(rt: &W, pool: &SharedPool, member: &mut Member, root: Ro
     member.account.turns -= 4;
     let last = seat_work::release(rt, pool, &mut member.seat, root);
     member.account.counts.take(root);
-    member.account.moves = moves_after(last, member.account.moves);
+    regain(&mut member.account.moves, last);
     last
 }
 
@@ -84,19 +84,18 @@ fn try_release_settled(pool: &SharedPool, member: &mut Member, root: RootId) -> 
     member.account.turns -= 4;
     let (last, left) = seat_tries::release(pool, &mut member.seat, root);
     member.account.counts.take(root);
-    member.account.moves = moves_after(last, member.account.moves);
+    regain(&mut member.account.moves, last);
     keep(&mut member.pending, Pending::Tried(left));
     last
 }
 
-// The moves that a release leaves.
-fn moves_after(last: bool, moves: u32) -> u32
-    ensures { result ≡ moves_after last moves }
+// The move that a release gives back, where it wasn't the last one.
+#[inline(always)]
+fn regain(moves: &mut u32, last: bool)
+    ensures { moves.new ≡ moves_after last moves.old }
 {
-    if !last && moves < MOST_MOVES {
-        moves + 1
-    } else {
-        moves
+    if !last && *moves < MOST_MOVES {
+        *moves += 1;
     }
 }
 

@@ -37,7 +37,7 @@ returns-clause-does g c =
       account =
           record mid.account {
             turns = mid.account.turns - 4;
-            moves = c.moves_after-member.result;
+            moves = c.regain.new.moves;
             counts =
                 c.take.new.self;
           };
@@ -51,7 +51,7 @@ returns-clause-does g c =
     (settled_on pool change 4 0 4 mid new is none refl did.goes did.changes spends
     (tells_settled pool change 4 0 4 mid new is none refl did.goes did.changes spends
     (λ root. (let a = c.take.ensures.tells root in omega (arith, a)))) (omega arith)
-    (moves_left pool mid call.new.seat is last c.moves_after-member.result did.goes.moves_left call.ensures.moves
-    c.moves_after-member.ensures)
+    (moves_left pool mid call.new.seat is last c.regain.new.moves did.goes.moves_left call.ensures.moves
+    c.regain.ensures)
     (later_letters pool mid.seat call.new.seat call.ensures.later) refl None
     (stays_later pool mid.seat call.new.seat call.ensures.later) (λ q kept. sym (c.take.ensures.alone q) ∙ kept))

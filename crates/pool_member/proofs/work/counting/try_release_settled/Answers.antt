@@ -28,7 +28,7 @@ returns-clause-does c =
       account =
           record old.account {
             turns = old.account.turns - 4;
-            moves = c.moves_after-member.result;
+            moves = c.regain.new.moves;
             counts = c.take.new.self;
           };
       pending = Tried left;
@@ -42,7 +42,7 @@ returns-clause-does c =
     (tells_known pool change goes.spent 0 4 old after is did.goes did.changes spends
     (λ root. (let a = c.take.ensures.tells root in omega (arith, a))))
     (let a = goes.within in omega (arith, a))
-    (moves_left pool old call.new.seat is last c.moves_after-member.result did.goes.moves_left call.ensures.moves
-    c.moves_after-member.ensures)
+    (moves_left pool old call.new.seat is last c.regain.new.moves did.goes.moves_left call.ensures.moves
+    c.regain.ensures)
     goes.begun (later_letters pool old.seat call.new.seat goes.later) refl None
     (stays_later pool old.seat call.new.seat goes.later) (λ q kept. sym (c.take.ensures.alone q) ∙ kept))

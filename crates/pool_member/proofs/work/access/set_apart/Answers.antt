@@ -7,7 +7,7 @@ use Rattle.pool_member.specs.Counting.{counted, known}
 use Rattle.pool_member.specs.Tries.{HasAccessed, StaysOut}
 use Rattle.pool_member.proofs.Alone.{laid_after}
 use Rattle.pool_member.proofs.Accessing.{accessed_after, same_account, waits_first, waits_on}
-use Rattle.pool_member.proofs.work.access.wait_to_set.Goals as goal
+use Rattle.pool_member.proofs.work.access.set_apart.Goals as goal
 
 pub try_set-requires-clause-counts : goal.try_set-requires-clause-counts
 try_set-requires-clause-counts g c =

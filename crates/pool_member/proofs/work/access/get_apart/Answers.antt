@@ -7,7 +7,7 @@ use Rattle.pool_member.specs.Counting.{counted, known}
 use Rattle.pool_member.specs.Tries.{HasAccessed, StaysOut}
 use Rattle.pool_member.proofs.Alone.{own_after}
 use Rattle.pool_member.proofs.Accessing.{accessed_after, same_account, waits_first, waits_on}
-use Rattle.pool_member.proofs.work.access.wait_to_get.Goals as goal
+use Rattle.pool_member.proofs.work.access.get_apart.Goals as goal
 
 pub try_get-requires-clause-counts : goal.try_get-requires-clause-counts
 try_get-requires-clause-counts g c =

@@ -1,5 +1,5 @@
 use Rattle.pool_member.proofs.Accessing.{Waits}
-use Rattle.pool_member.proofs.work.access.wait_to_set.Given as goal
+use Rattle.pool_member.proofs.work.access.set_apart.Given as goal
 
 abbrev pub invariant-loop : goal.invariant-loop
 invariant-loop g l = Waits l.pool l.fn.member l.member
