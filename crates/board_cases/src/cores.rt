@@ -15,7 +15,7 @@ ghost use Rattle.board_cases.specs.Seats.{Can, used};
 ghost use Rattle.board_cases.specs.Texts.{IsText, Shows, part, text_in, turns_of_board};
 
 use composite_buf::{Composite, PartList};
-use lane_core::Stepped;
+use lane_stages::Stepped;
 use pool_law::{Level, Part, RootId, Shape, Watch};
 use pool_table::Layout;
 use seat_work::{allocate, retain, set};

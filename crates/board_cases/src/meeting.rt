@@ -11,7 +11,7 @@ ghost use Rattle.board_cases.specs.Texts.{Shows};
 
 use crate::cores::{LAYOUT, Opened, SMALL, TEXT, core_before, filled, open, open_board};
 use crate::seats::let_go;
-use lane_core::Stepped;
+use lane_stages::Stepped;
 use pool_law::{Object, Parcel, RootId, ViewData};
 use seat_work::{fetch, post, retain};
 use shared_composite::{Board, BoardSeat, Busy};

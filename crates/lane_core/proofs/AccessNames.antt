@@ -16,9 +16,9 @@ use Rattle.lane_core.specs.declared.access.Refusal.{Refusal}
 use Rattle.lane_core.specs.declared.access.Reach.{Reach}
 use Rattle.lane_core.specs.declared.access.Access.{Access}
 use Rattle.lane_core.specs.declared.access.Access.TheVariants.{Refused, Set, Get}
-use Rattle.lane_core.specs.declared.counts.Counted.{Counted}
+use Rattle.lane_stages.specs.declared.counts.Counted.{Counted}
 use Rattle.lane_core.specs.Named.{AreInside, bound_at, NamesAre}
-use Rattle.lane_core.specs.Counting.{counted}
+use Rattle.lane_stages.specs.Counting.{counted}
 use Rattle.lane_core.specs.Accesses.{reply_for, tries_or, IsState, IsRefusedRange, IsReached, Reaches, IsPrepared, BindsBelow, IsMadeSet, IsMadeGet}
 use Rattle.lane_core.specs.Works.{IsPlainAt, IsUnplanned}
 use Rattle.lane_core.proofs.NameLaws.{bound_within, NamesAre-again, NamesAre-bind}

@@ -10,7 +10,6 @@ use Rattle.pool_law.specs.declared.note.Object.{Object}
 use Rattle.pool_law.specs.declared.note.Object.TheVariants.{Root}
 use Rattle.pool_law.specs.declared.run.Reply.{Reply}
 use Rattle.pool_law.specs.declared.run.Shape.{Shape}
-use Rattle.pool_law.specs.Naming.{noted_by}
 use Rattle.pool_law.specs.Logs.{ToldNote}
 use Rattle.pool_law.proofs.CompositeLemmas.{same_bytes-refl}
 use Rattle.pool_law.specs.Dids as says
@@ -21,83 +20,42 @@ use Rattle.pool_law.specs.Names.{Names, Bound, Plain}
 use Rattle.pool_law.specs.Readers.{Log, Reader, ◌>>=◌, ◌>>◌, give, given, busy, access as accesses}
 use Rattle.pool_law.proofs.SameLemmas.{same_root-is}
 use Rattle.pool_law.proofs.PatternLemmas.{same_number, same_root-refl}
-use Rattle.leak_records.specs.Records.{Sampling}
 use Rattle.pool_table.specs.declared.views.Entry.{Entry}
 use Rattle.pool_table.specs.declared.views.Entry.TheVariants.{At, Busy}
 use Rattle.shared_pool.specs.SeatViews.{view_of, SameSeat}
 use Rattle.shared_pool.specs.declared.pool.SharedPool.{SharedPool}
 use Rattle.shared_pool.specs.Closing.{entry_of}
-use Rattle.pool_table.specs.Letters.{sent_on}
 use Rattle.shared_pool.specs.RootNotes.{access}
 use Rattle.shared_pool.specs.SeatLanes.{lane_of}
 use Rattle.shared_pool.specs.Seats.{IsPoolSeat, IsNoted, FoundBusy}
-use Rattle.seat_work.proofs.Accesses.{set_quiet, get_quiet, touch_quiet}
 use Rattle.lane_core.specs.declared.access.Reach.{Reach}
-use Rattle.lane_core.specs.declared.counts.Counted.{Counted}
+use Rattle.lane_stages.specs.declared.counts.Counted.{Counted}
 use Rattle.lane_core.specs.declared.context.Context.{Context}
 use Rattle.lane_core.specs.declared.context.Stage.TheVariants.{Ready}
 use Rattle.lane_core.specs.declared.context.Turn.TheVariants.{Went}
 use Rattle.lane_core.specs.Accesses.{IsState, reads_set, reads_get, tries_or}
-use Rattle.lane_core.specs.NextNotes.{BeginsAt}
-use Rattle.lane_core.specs.Readings.{before_left, ReadsOn, none_asked}
+use Rattle.lane_stages.specs.NextNotes.{BeginsAt}
+use Rattle.seat_work.specs.Readings.{before_left, ReadsOn}
+use Rattle.lane_stages.specs.Readings.{none_asked}
 use Rattle.seat_work.specs.Hands.{lane_in, empty_hand}
-use Rattle.lane_core.specs.Budgets.{takes}
-use Rattle.lane_core.specs.Counting.{counted}
+use Rattle.lane_stages.specs.Counting.{counted}
 use Rattle.lane_core.specs.Named.{bound_at, NamesAre}
-use Rattle.lane_core.specs.Sampled.{AreSampled}
+use Rattle.lane_stages.specs.Sampled.{AreSampled}
 use Rattle.lane_core.specs.Contexts.{IsContext, left_for, HasTurned}
 use Rattle.lane_core.specs.ContextSteps.{HasNoted, HasReplied, MayTurn}
 use Rattle.seat_work.proofs.Grown.{Grows, grows_noted, grows_busy}
-use Rattle.seat_work.proofs.HandLaws.{Carries, held_on}
+use Rattle.seat_work.proofs.HandLaws.{held_on}
 use Rattle.seat_work.proofs.HandNotes.{marked_busy}
-use Rattle.lane_core.proofs.NextNotes.{access_begins, same_begins, then_begins}
+use Rattle.lane_stages.proofs.NextNotes.{access_begins, same_begins, then_begins}
 use Rattle.lane_core.proofs.Ways.{HasWay, access_way, give_way, same_way, then_way}
-use Rattle.lane_core.proofs.EntryCounts.{Recounts, IsStill, still}
+use Rattle.lane_stages.proofs.AccessEntries.{IsAccessDid, access_entry, touch_is}
+use Rattle.lane_stages.proofs.EntryCounts.{Recounts, still}
 use Rattle.lane_core.proofs.NameLaws.{RebindsAt, rebound_same}
-use Rattle.lane_core.proofs.ReadLaws.{given_on, first_on, second_on, none_then, access_on, mark_on, note_unmarked}
+use Rattle.seat_work.proofs.ReadLaws.{given_on, first_on, second_on, none_then, access_on, mark_on}
+use Rattle.lane_stages.proofs.ReadLaws.{note_unmarked}
 use Rattle.lane_core.proofs.StateReads.{used_view, viewed, goes}
 use Rattle.lane_core.proofs.ContextLaws.{Advances}
 use Rattle.lane_core.proofs.Turning.{one_turn, one_turn_same, mid_names, as_start}
-
-module _ (r : RootId) (number : ℕ) (lane : Option ℕ) where
-  -- the entry of an access to the root
-  abbrev pub access_entry : Did → Entry
-  access_entry did = At (Root r.place) number (noted_by lane (access r did))
-
-  -- an access changes neither counts nor hands, and is no birth, no taking and no post
-  pub record IsAccessDid (did : Did) : Type 0 where
-    pub is_still : IsStill (Note.At (Root r.place) number did)
-    pub carries : (m : ℕ) → Carries m empty_hand empty_hand (access_entry did ∷ [])
-    pub sampled : (s : Sampling) → AreSampled s (access_entry did ∷ []) s
-    pub none_taken : takes (access_entry did) ≡ 0
-    pub none_sent : (m to : ℕ) → sent_on m to (access_entry did ∷ []) ≡ 0
-
-  pub set_is : (offset : ℕ) (bytes : List ℕ) → IsAccessDid (Did.Set offset bytes)
-  set_is offset bytes = record {
-    is_still = record { gains = λ root. refl; loses = λ root. refl; needs = λ root. refl; ends = λ root. refl };
-    carries = (set_quiet r number lane offset bytes).carries;
-    sampled = λ s. (tt, refl);
-    none_taken = refl;
-    none_sent = (set_quiet r number lane offset bytes).unsent;
-  }
-
-  pub get_is : (offset : ℕ) (bytes : List ℕ) → IsAccessDid (Did.Get offset bytes)
-  get_is offset bytes = record {
-    is_still = record { gains = λ root. refl; loses = λ root. refl; needs = λ root. refl; ends = λ root. refl };
-    carries = (get_quiet r number lane offset bytes).carries;
-    sampled = λ s. (tt, refl);
-    none_taken = refl;
-    none_sent = (get_quiet r number lane offset bytes).unsent;
-  }
-
-  pub touch_is : IsAccessDid Did.Touch
-  touch_is = record {
-    is_still = record { gains = λ root. refl; loses = λ root. refl; needs = λ root. refl; ends = λ root. refl };
-    carries = (touch_quiet r number lane).carries;
-    sampled = λ s. (tt, refl);
-    none_taken = refl;
-    none_sent = (touch_quiet r number lane).unsent;
-  }
 
 module _ (pool : SharedPool) (old start mid new : Context) (d : IsContext pool empty_hand old)
     (low : old.asked < sweep_period) (start_is : start ≡ record old { seat = start.seat })

@@ -18,22 +18,22 @@ use Rattle.shared_pool.specs.SeatViews.{view_of}
 use Rattle.shared_pool.specs.declared.pool.SharedPool.{SharedPool}
 use Rattle.shared_pool.specs.Closing.{entry_of}
 use Rattle.shared_pool.specs.SeatLanes.{lane_of}
-use Rattle.lane_core.specs.declared.counts.Counted.{Counted}
+use Rattle.lane_stages.specs.declared.counts.Counted.{Counted}
 use Rattle.lane_core.specs.declared.context.Context.{Context}
 use Rattle.lane_core.specs.declared.context.Stage.TheVariants.{Ready, Allotting}
 use Rattle.lane_core.specs.declared.context.Turn.{Turn}
 use Rattle.lane_core.specs.declared.context.Turn.TheVariants.{Went}
 use Rattle.lane_core.specs.declared.access.Refusal.TheVariants.{Taken}
-use Rattle.lane_core.specs.declared.allotment.Allotting.{Allotting as AllotStage}
-use Rattle.lane_core.specs.declared.allotment.Allotting.TheVariants.{Handle as AskHandle}
-use Rattle.lane_core.specs.declared.allotment.Allotted.{Allotted}
-use Rattle.lane_core.specs.declared.allotment.Allotted.TheVariants.{New}
-use Rattle.lane_core.specs.declared.stage_step.StageStep.{StageStep}
-use Rattle.lane_core.specs.declared.stage_step.StageStep.TheVariants.{Done}
-use Rattle.lane_core.specs.Allotments as allotment
+use Rattle.lane_stages.specs.declared.allotment.Allotting.{Allotting as AllotStage}
+use Rattle.lane_stages.specs.declared.allotment.Allotting.TheVariants.{Handle as AskHandle}
+use Rattle.lane_stages.specs.declared.allotment.Allotted.{Allotted}
+use Rattle.lane_stages.specs.declared.allotment.Allotted.TheVariants.{New}
+use Rattle.lane_stages.specs.declared.stage_step.StageStep.{StageStep}
+use Rattle.lane_stages.specs.declared.stage_step.StageStep.TheVariants.{Done}
+use Rattle.lane_stages.specs.Allotments as allotment
 use Rattle.lane_core.specs.Accesses.{IsState}
 use Rattle.seat_work.specs.Changes.{one_for}
-use Rattle.lane_core.specs.Counting.{counted}
+use Rattle.lane_stages.specs.Counting.{counted}
 use Rattle.seat_work.specs.Hands.{empty_hand}
 use Rattle.lane_core.specs.Named.{bound_at}
 use Rattle.lane_core.specs.Readings.{swept}
@@ -41,7 +41,7 @@ use Rattle.lane_core.specs.Contexts.{IsContext, notes_of, entries_of, reads_from
 use Rattle.lane_core.specs.ContextSteps.{HasReplied, CanAnswer, MayTurn}
 use Rattle.lane_core.proofs.BeginTurns as begin
 use Rattle.lane_core.proofs.BeginTurns.{within_same, within_sheds}
-use Rattle.lane_core.proofs.SeatCounts.{few_counted, alone_added}
+use Rattle.lane_stages.proofs.SeatCounts.{few_counted, alone_added}
 use Rattle.lane_core.proofs.StateReads.{passed, comes_first, is_free, is_taken, goes, refuses}
 use Rattle.lane_core.proofs.Turning.{noteless, refused_turn}
 use Rattle.lane_core.proofs.ContextGrown.{noted_so}

@@ -24,32 +24,33 @@ use Rattle.shared_pool.specs.declared.pool.SharedPool.{SharedPool}
 use Rattle.shared_pool.specs.Closing.{entry_of}
 use Rattle.shared_pool.specs.SeatLanes.{lane_of}
 use Rattle.shared_pool.specs.Seats.{FoundBusy}
-use Rattle.lane_core.specs.declared.counts.Counted.{Counted}
+use Rattle.lane_stages.specs.declared.counts.Counted.{Counted}
 use Rattle.lane_core.specs.declared.context.Context.{Context}
 use Rattle.lane_core.specs.declared.context.Stage.TheVariants.{Allotting}
 use Rattle.lane_core.specs.declared.context.Turn.{Turn}
 use Rattle.lane_core.specs.declared.context.Turn.TheVariants.{Went, Pending}
-use Rattle.lane_core.specs.declared.allotment.Allotting.{Allotting as AllotStage}
-use Rattle.lane_core.specs.declared.allotment.Allotting.TheVariants.{Handle as AllotHandle, Cache as AllotCache, Arena as AllotArena, Birth as AllotBirth, Home as AllotHome}
-use Rattle.lane_core.specs.declared.allotment.Allotted.{Allotted}
-use Rattle.lane_core.specs.declared.allotment.Allotted.TheVariants.{New}
-use Rattle.lane_core.specs.declared.stage_step.StageStep.{StageStep}
-use Rattle.lane_core.specs.declared.stage_step.StageStep.TheVariants.{More, Held as AllotHeld, Done}
-use Rattle.lane_core.specs.Allotments as allotment
-use Rattle.lane_core.specs.Budgets.{Left, Spends, notes_alone}
+use Rattle.lane_stages.specs.declared.allotment.Allotting.{Allotting as AllotStage}
+use Rattle.lane_stages.specs.declared.allotment.Allotting.TheVariants.{Handle as AllotHandle, Cache as AllotCache, Arena as AllotArena, Birth as AllotBirth, Home as AllotHome}
+use Rattle.lane_stages.specs.declared.allotment.Allotted.{Allotted}
+use Rattle.lane_stages.specs.declared.allotment.Allotted.TheVariants.{New}
+use Rattle.lane_stages.specs.declared.stage_step.StageStep.{StageStep}
+use Rattle.lane_stages.specs.declared.stage_step.StageStep.TheVariants.{More, Held as AllotHeld, Done}
+use Rattle.lane_stages.specs.Allotments as allotment
+use Rattle.lane_stages.specs.Budgets.{Left, Spends, notes_alone}
 use Rattle.seat_work.specs.Changes.{one_for}
-use Rattle.lane_core.specs.Counting.{counted}
+use Rattle.lane_stages.specs.Counting.{counted}
 use Rattle.seat_work.specs.Hands.{Hand, empty_hand}
 use Rattle.lane_core.specs.Named.{NamesAre}
-use Rattle.lane_core.specs.NextNotes.{BeginsAt}
-use Rattle.lane_core.specs.Readings.{ReadsOn, swept, renamed}
+use Rattle.lane_stages.specs.NextNotes.{BeginsAt}
+use Rattle.seat_work.specs.Readings.{ReadsOn}
+use Rattle.lane_core.specs.Readings.{swept, renamed}
 use Rattle.lane_core.specs.Contexts.{IsContext, reads_from, HasTurned}
 use Rattle.lane_core.specs.ContextSteps.{HasNoted, Concludes, CountsMore}
-use Rattle.lane_core.proofs.NextNotes.{then_begins}
-use Rattle.lane_core.proofs.SeatCounts.{adds_recounted}
-use Rattle.lane_core.proofs.Knowing.{knows_name}
+use Rattle.lane_stages.proofs.NextNotes.{then_begins}
+use Rattle.lane_stages.proofs.SeatCounts.{adds_recounted}
+use Rattle.lane_stages.proofs.Knowing.{knows_name}
 use Rattle.lane_core.proofs.NameLaws.{NamesAre-bind, rebound_same, rebound_view}
-use Rattle.lane_core.proofs.ReadLaws.{then_on, given_on}
+use Rattle.seat_work.proofs.ReadLaws.{then_on, given_on}
 use Rattle.lane_core.proofs.ContextLaws.{spends_at}
 use Rattle.lane_core.proofs.ContextGrown.{noted_so}
 use Rattle.lane_core.proofs.StageTurns.{Staged, none_of, some_of, staged_concludes, staged_counts, staged_grew, staged_names, staged_on, staged_seat, staged_shape, staged_still}

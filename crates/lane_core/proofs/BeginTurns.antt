@@ -15,10 +15,10 @@ use Rattle.lane_core.specs.declared.context.Stage.{Stage}
 use Rattle.lane_core.specs.declared.context.Stage.TheVariants.{Ready}
 use Rattle.lane_core.specs.declared.context.Turn.{Turn}
 use Rattle.lane_core.specs.declared.context.Turn.TheVariants.{Went, Pending, Waiting}
-use Rattle.lane_core.specs.Budgets.{Left, with_sheds}
+use Rattle.lane_stages.specs.Budgets.{Left, with_sheds}
 use Rattle.lane_core.specs.Contexts.{HasTurned, IsUnderway, SpendsAt, left_after, left_now, log_of, reads_from}
 use Rattle.lane_core.specs.Works.{IsWithin}
-use Rattle.lane_core.proofs.NextNotes.{same_begins}
+use Rattle.lane_stages.proofs.NextNotes.{same_begins}
 use Rattle.lane_core.proofs.StageCases.{by_kind, left_on, on_waits, on_went, waits_on, went_on}
 
 -- what is left is within what is, and so with what caches may shed

@@ -14,7 +14,7 @@ use Rattle.pool_law.specs.Lanes.{Answer, answer, answer_of}
 use Rattle.pool_law.specs.Names.{Names, Bound, Plain}
 use Rattle.pool_law.specs.Dids as says
 use Rattle.pool_law.specs.Readers.{Log, Reader, give, access as accesses}
-use Rattle.lane_core.proofs.NextNotes.{access_begins, same_begins, then_begins}
+use Rattle.lane_stages.proofs.NextNotes.{access_begins, same_begins, then_begins}
 use Rattle.lane_core.proofs.Ways.{HasWay, get_way, give_way, same_way, set_way, then_way}
 use Rattle.lane_core.proofs.NameLaws.{rebound_view}
 use Rattle.pool_table.specs.declared.views.Entry.TheVariants.{Busy}
@@ -31,18 +31,20 @@ use Rattle.lane_core.specs.declared.context.Stage.TheVariants.{Ready}
 use Rattle.lane_core.specs.declared.context.Turn.{Turn}
 use Rattle.lane_core.specs.declared.context.Turn.TheVariants.{Went}
 use Rattle.lane_core.specs.Accesses.{reads_set, reads_get, tries_or}
-use Rattle.lane_core.specs.NextNotes.{BeginsAt}
-use Rattle.lane_core.specs.Readings.{before_left, ReadsOn, none_asked}
-use Rattle.lane_core.specs.Counting.{counted}
+use Rattle.lane_stages.specs.NextNotes.{BeginsAt}
+use Rattle.seat_work.specs.Readings.{before_left, ReadsOn}
+use Rattle.lane_stages.specs.Readings.{none_asked}
+use Rattle.lane_stages.specs.Counting.{counted}
 use Rattle.seat_work.specs.Hands.{empty_hand}
 use Rattle.lane_core.specs.Named.{NamesAre, known_to}
 use Rattle.lane_core.specs.Contexts.{IsContext, left_for, HasTurned}
 use Rattle.lane_core.specs.ContextSteps.{HasNoted, HasReplied, FindsBusy, AccessTurns}
 use Rattle.lane_core.proofs.ContextWaits.{waits_turn}
 use Rattle.pool_law.specs.Views.{LiesIn}
-use Rattle.lane_core.proofs.Knowing.{lies_more}
+use Rattle.lane_stages.proofs.Knowing.{lies_more}
 use Rattle.seat_work.proofs.Grown.{grows_noted}
-use Rattle.lane_core.proofs.AccessTurns.{IsAccessDid, set_is, get_is, access_entry, access_turn, access_names, busy_turn, read_set, read_get, read_busy}
+use Rattle.lane_stages.proofs.AccessEntries.{IsAccessDid, set_is, get_is, access_entry}
+use Rattle.lane_core.proofs.AccessTurns.{access_turn, access_names, busy_turn, read_set, read_get, read_busy}
 
 -- the access of a reach to its root is noted, and its name is bound to what is behind it
 module _ (pool : SharedPool) (old start mid new : Context) (d : IsContext pool empty_hand old)

@@ -10,7 +10,7 @@ use Rattle.lane_core.specs.declared.context.Stage.{Stage}
 use Rattle.lane_core.specs.declared.context.Stage.TheVariants.{Ready}
 use Rattle.lane_core.specs.declared.lane.Lane.{Lane}
 use Rattle.lane_core.specs.Accesses.{BindsBelow}
-use Rattle.lane_core.specs.Budgets.{Left}
+use Rattle.lane_stages.specs.Budgets.{Left}
 use Rattle.lane_core.specs.Contexts.{AccessFits, IsContext, hand_of, left_for}
 use Rattle.lane_core.specs.ContextSteps.{MayTurn}
 use Rattle.lane_core.specs.Lanes.{IsRunningLane, commands_left}

@@ -11,15 +11,16 @@ use Rattle.lane_core.specs.declared.context.Context.{Context}
 use Rattle.lane_core.specs.declared.context.Stage.TheVariants.{Ready, Closing}
 use Rattle.lane_core.specs.declared.context.Turn.{Turn}
 use Rattle.lane_core.specs.declared.context.Turn.TheVariants.{Went, Pending, Waiting}
-use Rattle.lane_core.specs.declared.draining.DrainKind.TheVariants.{Close}
-use Rattle.lane_core.specs.declared.draining.Draining.{Draining}
+use Rattle.lane_stages.specs.declared.draining.DrainKind.TheVariants.{Close}
+use Rattle.lane_stages.specs.declared.draining.Draining.{Draining}
 use Rattle.lane_core.specs.declared.lane.Lane.{Lane}
-use Rattle.lane_core.specs.declared.lane.Stepped.TheVariants.{Went as StepWent, Pending as StepPending}
-use Rattle.lane_core.specs.Drainings as draining
+use Rattle.lane_stages.specs.declared.stepped.Stepped.TheVariants.{Went as StepWent, Pending as StepPending}
+use Rattle.lane_stages.specs.Drainings as draining
 use Rattle.lane_core.specs.Contexts.{IsContext, hand_of, next_of, HasTurnedClosing}
 use Rattle.lane_core.proofs.StageCases.{by_kind, closes_held, closes_none}
-use Rattle.lane_core.specs.NextNotes.{BeginsAt}
-use Rattle.lane_core.specs.Readings.{ReadsOn, behind, none_asked}
+use Rattle.lane_stages.specs.NextNotes.{BeginsAt}
+use Rattle.seat_work.specs.Readings.{ReadsOn, behind}
+use Rattle.lane_stages.specs.Readings.{none_asked}
 use Rattle.lane_core.specs.Lanes.{SameLane, commands_left, entries_since, number_of}
 use Rattle.lane_core.specs.Steps.{HasStepped, IsReadOn, IsStateBehind, NextStandsAt, stepped_of}
 use Rattle.lane_core.proofs.StageWays.{drain_from}

@@ -31,35 +31,38 @@ use Rattle.shared_pool.specs.Closing.{entry_of}
 use Rattle.shared_pool.specs.RootNotes.{HoldsToken}
 use Rattle.shared_pool.specs.SeatLanes.{lane_of}
 use Rattle.shared_pool.specs.Seats.{IsPoolSeat}
-use Rattle.lane_core.specs.declared.counts.Counted.{Counted}
+use Rattle.lane_stages.specs.declared.counts.Counted.{Counted}
 use Rattle.lane_core.specs.declared.context.Context.{Context}
 use Rattle.lane_core.specs.declared.context.Stage.TheVariants.{Ready, Ending}
 use Rattle.lane_core.specs.declared.context.Turn.TheVariants.{Went}
-use Rattle.lane_core.specs.declared.retirement.Ending.TheVariants.{Root as RootEnds}
+use Rattle.lane_stages.specs.declared.retirement.Ending.TheVariants.{Root as RootEnds}
 use Rattle.lane_core.specs.Accesses.{IsState}
-use Rattle.lane_core.specs.Allotments.{left_with}
+use Rattle.lane_stages.specs.Allotments.{left_with}
 use Rattle.seat_work.specs.Hands.{lane_in, Hand, empty_hand}
-use Rattle.lane_core.specs.Budgets.{Spends, notes_alone}
+use Rattle.lane_stages.specs.Budgets.{Spends, notes_alone}
 use Rattle.seat_work.specs.Changes.{one_for}
-use Rattle.lane_core.specs.Counting.{counted}
+use Rattle.lane_stages.specs.Counting.{counted}
 use Rattle.lane_core.specs.Named.{bound_at, NamesAre, known_to, AreInside}
-use Rattle.lane_core.specs.Endings.{retired}
-use Rattle.lane_core.specs.Readings.{before_left, behind, ReadsOn, none_asked, swept, renamed}
+use Rattle.lane_stages.specs.Endings.{retired}
+use Rattle.seat_work.specs.Readings.{before_left, behind, ReadsOn}
+use Rattle.lane_stages.specs.Readings.{none_asked}
+use Rattle.lane_core.specs.Readings.{swept, renamed}
 use Rattle.lane_core.specs.Contexts.{IsContext, notes_of, entries_of, HasRoomFor, reads_from, left_for, HasTurned}
 use Rattle.lane_core.specs.ContextSteps.{HasNoted, HasReplied, HasRetained, CountsMore, CountsLess, MayTurn}
-use Rattle.lane_core.proofs.CountLaws.{counted_within}
+use Rattle.lane_stages.proofs.CountLaws.{counted_within}
 use Rattle.lane_core.proofs.NameLaws.{NamesAre-bind, NamesAre-unbound, rebound_view, rebound_none}
 use Rattle.seat_work.proofs.Grown.{Grows, grows_ref}
-use Rattle.lane_core.proofs.Grown.{spends}
+use Rattle.lane_stages.proofs.Grown.{spends}
 use Rattle.seat_work.proofs.HandLaws.{Carries, held_on}
-use Rattle.lane_core.proofs.EntryCounts.{retained, kept, ended}
-use Rattle.lane_core.proofs.SeatCounts.{last_count, has_count, few_counted, stays_counted}
-use Rattle.lane_core.proofs.ReadLaws.{then_on, given_on, first_on, second_on, none_then, step_on, step_off}
+use Rattle.lane_stages.proofs.EntryCounts.{retained, kept, ended}
+use Rattle.lane_stages.proofs.SeatCounts.{last_count, has_count, few_counted, stays_counted}
+use Rattle.seat_work.proofs.ReadLaws.{then_on, given_on, first_on, second_on, none_then, step_on}
+use Rattle.lane_stages.proofs.ReadLaws.{step_off}
 use Rattle.lane_core.proofs.StateReads.{named_so, viewed, is_bound, passed, used_fresh, ranged_fresh, unranged_fresh, goes, refuses, goes_uncounted}
 use Rattle.lane_core.proofs.ContextLaws.{Advances, spends_at}
 use Rattle.lane_core.proofs.ContextGrown.{mid_grew, goes_on}
 use Rattle.seat_work.proofs.HandNotes.{weightless, ended_carries}
-use Rattle.lane_core.proofs.Knowing.{lies_more}
+use Rattle.lane_stages.proofs.Knowing.{lies_more}
 use Rattle.lane_core.proofs.Turning.{noteless, ref_advances, one_turn, one_turn_same, mid_names}
 
 -- ---- Names.

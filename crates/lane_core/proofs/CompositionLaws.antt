@@ -11,17 +11,17 @@ use Rattle.pool_law.specs.declared.run.Shape.{Shape}
 use Rattle.pool_law.specs.Composites.{Composite, filled, is_crowded, most_bytes, most_parts, size_of}
 use Rattle.pool_law.specs.Limits.{geometry_of}
 use Rattle.pool_law.specs.Refusals.{has_no_class, is_too_long}
-use Rattle.lane_core.specs.declared.copying.Transfer.{Transfer}
-use Rattle.lane_core.specs.declared.counts.Counted.{Counted}
+use Rattle.lane_stages.specs.declared.copying.Transfer.{Transfer}
+use Rattle.lane_stages.specs.declared.counts.Counted.{Counted}
 use Rattle.lane_core.specs.declared.context.Context.{Context}
 use Rattle.lane_core.specs.declared.work.Consolidation.{Consolidation}
 use Rattle.lane_core.specs.declared.work.Work.{Work}
 use Rattle.lane_core.specs.declared.work.Work.TheVariants.{Refused, Empty, Cross, End, Bind, Consolidate}
 use Rattle.lane_core.specs.Composing.{IsCandidate, IsConsolidation, IsTransfer}
 use Rattle.lane_core.specs.Compositions.{AreJoinable, HasBytes, IsMade, MayMake, joined}
-use Rattle.lane_core.specs.Counting.{counted}
+use Rattle.lane_stages.specs.Counting.{counted}
 use Rattle.lane_core.specs.Named.{IsInRoot}
-use Rattle.lane_core.specs.Releasings.{AreUncounted}
+use Rattle.lane_stages.specs.Releasings.{AreUncounted}
 use Rattle.lane_core.specs.Works.{IsReady}
 
 -- ---- Which composites are too long.

@@ -19,13 +19,13 @@ use Rattle.pool_law.specs.Readers.{Log, Reader, ◌>>=◌, give, given}
 use Rattle.pool_law.specs.Refusals.{Refusal as Refuses, first_refusal, is_too_long, refusal, refusals, too_long}
 use Rattle.lane_core.specs.declared.access.Refusal.{Refusal}
 use Rattle.lane_core.specs.declared.access.Refusal.TheVariants.{TooLarge}
-use Rattle.lane_core.specs.declared.counts.Counted.{Counted}
+use Rattle.lane_stages.specs.declared.counts.Counted.{Counted}
 use Rattle.lane_core.specs.declared.context.Context.{Context}
 use Rattle.lane_core.specs.declared.work.Consolidation.{Consolidation}
 use Rattle.lane_core.specs.declared.work.Work.{Work}
 use Rattle.lane_core.specs.declared.work.Work.TheVariants.{Refused, Empty, Cross, End, Bind, Consolidate}
 use Rattle.lane_core.specs.Accesses.{IsState, reply_for}
-use Rattle.lane_core.specs.Budgets.{notes_alone}
+use Rattle.lane_stages.specs.Budgets.{notes_alone}
 use Rattle.lane_core.specs.Composing.{IsConsolidation}
 use Rattle.lane_core.specs.Compositions.{IsMade, joined, readable_at, readable_of, refusals_to_add, refusals_to_compose}
 use Rattle.lane_core.specs.Contexts.{left_for, moves_of}

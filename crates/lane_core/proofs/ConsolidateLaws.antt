@@ -14,11 +14,11 @@ use Rattle.pool_table.specs.declared.views.SeatView.{SeatView}
 use Rattle.composite_buf.proofs.MapLaws.{size_of_cons}
 use Rattle.shared_pool.specs.declared.pool.SharedPool.{SharedPool}
 use Rattle.lane_core.specs.declared.context.Context.{Context}
-use Rattle.lane_core.specs.Budgets.{Left, Spends}
+use Rattle.lane_stages.specs.Budgets.{Left, Spends}
 use Rattle.lane_core.specs.Composing.{IsConsolidation, IsTransfer}
 use Rattle.lane_core.specs.Named.{IsMarked}
-use Rattle.lane_core.specs.declared.copying.Transfer.{Transfer}
-use Rattle.lane_core.specs.declared.counts.Counted.{Counted}
+use Rattle.lane_stages.specs.declared.copying.Transfer.{Transfer}
+use Rattle.lane_stages.specs.declared.counts.Counted.{Counted}
 use Rattle.lane_core.specs.declared.work.Consolidation.{Consolidation}
 use Rattle.lane_core.specs.Contexts.{HasRoomFor, with_parts}
 

@@ -28,43 +28,44 @@ use Rattle.shared_pool.specs.SeatLanes.{lane_of}
 use Rattle.seat_work.specs.Changes.{one_for}
 use Rattle.seat_work.specs.Hands.{Hand, empty_hand}
 use Rattle.seat_work.proofs.Counting.{one_self}
-use Rattle.lane_core.specs.declared.allotment.Allotted.{Allotted}
-use Rattle.lane_core.specs.declared.allotment.Allotted.TheVariants.{New}
-use Rattle.lane_core.specs.declared.stage_step.StageStep.{StageStep}
-use Rattle.lane_core.specs.declared.stage_step.StageStep.TheVariants.{More, Held as AllotHeld, Done}
-use Rattle.lane_core.specs.declared.allotment.Allotting.{Allotting as AllotStage}
-use Rattle.lane_core.specs.declared.copying.Copying.TheVariants.{Get as CopyGet}
-use Rattle.lane_core.specs.declared.copying.Transfer.{Transfer}
-use Rattle.lane_core.specs.declared.counts.Counted.{Counted}
+use Rattle.lane_stages.specs.declared.allotment.Allotted.{Allotted}
+use Rattle.lane_stages.specs.declared.allotment.Allotted.TheVariants.{New}
+use Rattle.lane_stages.specs.declared.stage_step.StageStep.{StageStep}
+use Rattle.lane_stages.specs.declared.stage_step.StageStep.TheVariants.{More, Held as AllotHeld, Done}
+use Rattle.lane_stages.specs.declared.allotment.Allotting.{Allotting as AllotStage}
+use Rattle.lane_stages.specs.declared.copying.Copying.TheVariants.{Get as CopyGet}
+use Rattle.lane_stages.specs.declared.copying.Transfer.{Transfer}
+use Rattle.lane_stages.specs.declared.counts.Counted.{Counted}
 use Rattle.lane_core.specs.declared.context.Context.{Context}
 use Rattle.lane_core.specs.declared.context.Stage.{Stage}
 use Rattle.lane_core.specs.declared.context.Stage.TheVariants.{Consolidating, Copying, Replacing}
 use Rattle.lane_core.specs.declared.context.Turn.{Turn}
 use Rattle.lane_core.specs.declared.context.Turn.TheVariants.{Went, Pending}
-use Rattle.lane_core.specs.declared.releasing.Releasing.{Releasing}
+use Rattle.lane_stages.specs.declared.releasing.Releasing.{Releasing}
 use Rattle.lane_core.specs.declared.work.Consolidation.{Consolidation}
-use Rattle.lane_core.specs.Allotments as allotment
-use Rattle.lane_core.specs.Budgets.{Left, Spends, notes_alone}
+use Rattle.lane_stages.specs.Allotments as allotment
+use Rattle.lane_stages.specs.Budgets.{Left, Spends, notes_alone}
 use Rattle.lane_core.specs.Composing.{IsBindable, IsCandidate, IsConsolidation, IsMoved, IsTransfer, MovesTo}
-use Rattle.lane_core.specs.Copyings as copying
-use Rattle.lane_core.specs.Counting.{counted}
+use Rattle.lane_stages.specs.Copyings as copying
+use Rattle.lane_stages.specs.Counting.{counted}
 use Rattle.lane_core.specs.Named.{NamesAre, known_to, IsInRoot}
-use Rattle.lane_core.specs.NextNotes.{BeginsAt}
-use Rattle.lane_core.specs.Readings.{ReadsOn, renamed, swept}
-use Rattle.lane_core.specs.Releasings as releasing
-use Rattle.lane_core.specs.Releasings.{AreUncounted}
+use Rattle.lane_stages.specs.NextNotes.{BeginsAt}
+use Rattle.seat_work.specs.Readings.{ReadsOn}
+use Rattle.lane_core.specs.Readings.{renamed, swept}
+use Rattle.lane_stages.specs.Releasings as releasing
+use Rattle.lane_stages.specs.Releasings.{AreUncounted}
 use Rattle.lane_core.specs.Contexts.{ContextGrew, GoesOn, HasTurned, IsContext, log_of, reads_from, with_parts}
 use Rattle.lane_core.specs.ContextSteps.{Concludes, CountsMore}
-use Rattle.lane_core.proofs.NextNotes.{then_begins}
+use Rattle.lane_stages.proofs.NextNotes.{then_begins}
 use Rattle.lane_core.proofs.AllotTurns.{allotted, asks_least, read_on}
 use Rattle.lane_core.proofs.ConsolidateLaws.{beside, copied_as, less_beside, made_of, moved_marked, replaced_as, consolidation_later}
 use Rattle.lane_core.proofs.ContextGrown.{grew, lengthened}
 use Rattle.lane_core.proofs.ContextLaws.{entries_more, reads_at, spends_at}
-use Rattle.lane_core.proofs.SeatCounts.{has_count}
+use Rattle.lane_stages.proofs.SeatCounts.{has_count}
 use Rattle.lane_core.proofs.NameLaws.{rebound_same}
-use Rattle.lane_core.proofs.Knowing.{knows_more, knows_name}
+use Rattle.lane_stages.proofs.Knowing.{knows_more, knows_name}
 use Rattle.lane_core.proofs.PartTurns.{candidate_on}
-use Rattle.lane_core.proofs.ReadLaws.{given_on, then_on}
+use Rattle.seat_work.proofs.ReadLaws.{given_on, then_on}
 use Rattle.seat_work.specs.Growth.{HasMore}
 use Rattle.lane_core.proofs.StageTurns.{none_of, some_of, staged, staged_concludes, staged_counts, staged_grew, staged_names, staged_on, staged_still}
 

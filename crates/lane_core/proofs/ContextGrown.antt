@@ -18,24 +18,26 @@ use Rattle.shared_pool.specs.SeatViews.{view_of}
 use Rattle.shared_pool.specs.declared.pool.SharedPool.{SharedPool}
 use Rattle.shared_pool.specs.Closing.{note_of, entry_of}
 use Rattle.shared_pool.specs.SeatLanes.{lane_of}
-use Rattle.lane_core.specs.declared.counts.Counted.{Counted}
+use Rattle.lane_stages.specs.declared.counts.Counted.{Counted}
 use Rattle.lane_core.specs.declared.context.Context.{Context}
 use Rattle.lane_core.specs.declared.context.Stage.{Stage}
 use Rattle.lane_core.specs.declared.context.Stage.TheVariants.{Ready}
 use Rattle.lane_core.specs.declared.context.Turn.TheVariants.{Went}
-use Rattle.lane_core.specs.Budgets.{notes_alone, with_sheds}
-use Rattle.lane_core.specs.Counting.{CountsAre}
+use Rattle.lane_stages.specs.Budgets.{notes_alone, with_sheds}
+use Rattle.lane_stages.specs.Counting.{CountsAre}
 use Rattle.seat_work.specs.Hands.{Hand, empty_hand}
-use Rattle.lane_core.specs.Logs.{HasWritten}
+use Rattle.lane_stages.specs.Logs.{HasWritten}
 use Rattle.lane_core.specs.Named.{NamesAre, known_to}
-use Rattle.lane_core.specs.Sampled.{AreSampled}
+use Rattle.lane_stages.specs.Sampled.{AreSampled}
 use Rattle.lane_core.specs.Contexts.{IsContext, notes_of, entries_of, log_of, reads_from, left_now, ContextGrew, GoesOn, SpendsAt, HasTurned}
-use Rattle.lane_core.specs.Readings.{behind, ReadsOn, swept}
+use Rattle.seat_work.specs.Readings.{behind, ReadsOn}
+use Rattle.lane_core.specs.Readings.{swept}
 use Rattle.lane_core.specs.ContextSteps.{HasNoted, HasReplied}
-use Rattle.lane_core.proofs.EntryCounts.{Recounts, recounted}
-use Rattle.lane_core.proofs.Knowing.{knows_more}
+use Rattle.lane_stages.proofs.EntryCounts.{Recounts, recounted}
+use Rattle.lane_stages.proofs.Knowing.{knows_more}
 use Rattle.lane_core.proofs.NameLaws.{RebindsAt, rebound_same, composites_kept, inside_later}
-use Rattle.lane_core.proofs.ReadLaws.{given_on, unswept}
+use Rattle.seat_work.proofs.ReadLaws.{given_on}
+use Rattle.lane_core.proofs.ReadLaws.{unswept}
 use Rattle.lane_core.proofs.ContextLaws.{Advances, entries_more, reads_at, sampled_append}
 
 module _ (pool : SharedPool) (hand after : Hand) (old start mid : Context) (d : IsContext pool hand old)

@@ -13,11 +13,11 @@ use Rattle.shared_pool.specs.declared.pool.SharedPool.{SharedPool}
 use Rattle.shared_pool.specs.Closing.{note_of, entry_of}
 use Rattle.shared_pool.specs.Seats.{IsPoolSeat}
 use Rattle.lane_core.specs.declared.context.Context.{Context}
-use Rattle.lane_core.specs.Budgets.{Left, Spends, with_sheds}
+use Rattle.lane_stages.specs.Budgets.{Left, Spends, with_sheds}
 use Rattle.seat_work.specs.Hands.{Hand, empty_hand, IsHeld}
-use Rattle.lane_core.specs.Sampled.{AreSampled, sampler_after}
+use Rattle.lane_stages.specs.Sampled.{AreSampled, sampler_after}
 use Rattle.lane_core.specs.Contexts.{IsContext, notes_of, entries_of, log_of, SpendsAt, HasRoomFor}
-use Rattle.lane_core.specs.Readings.{ReadsOn}
+use Rattle.seat_work.specs.Readings.{ReadsOn}
 use Rattle.lane_core.specs.ContextSteps.{HasNoted, CanAnswer, MayTurn}
 use Rattle.seat_work.proofs.Grown.{Grows, grows_none}
 

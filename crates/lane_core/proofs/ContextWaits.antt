@@ -12,21 +12,21 @@ use Rattle.shared_pool.specs.SeatViews.{view_of, SameSeat}
 use Rattle.shared_pool.specs.declared.pool.SharedPool.{SharedPool}
 use Rattle.shared_pool.specs.MailAnswers.{IsDrained}
 use Rattle.shared_pool.specs.Seats.{IsPoolSeat, FoundBusy}
-use Rattle.lane_core.specs.declared.counts.Counted.{Counted}
+use Rattle.lane_stages.specs.declared.counts.Counted.{Counted}
 use Rattle.lane_core.specs.declared.context.Context.{Context}
 use Rattle.lane_core.specs.declared.context.Stage.TheVariants.{Ready}
 use Rattle.lane_core.specs.declared.context.Turn.TheVariants.{Pending, Waiting}
-use Rattle.lane_core.specs.Budgets.{Left, Spends}
+use Rattle.lane_stages.specs.Budgets.{Left, Spends}
 use Rattle.seat_work.specs.Hands.{empty_hand}
-use Rattle.lane_core.specs.NextNotes.{BeginsAt}
+use Rattle.lane_stages.specs.NextNotes.{BeginsAt}
 use Rattle.lane_core.specs.Readings.{swept}
 use Rattle.lane_core.specs.Contexts.{IsContext, left_for, left_now, ContextGrew, Waits, SpendsAt, ReceivesFrom, HasTurned}
 use Rattle.lane_core.specs.ContextSteps.{HasNoted}
-use Rattle.lane_core.proofs.NextNotes.{begins_there, then_begins}
+use Rattle.lane_stages.proofs.NextNotes.{begins_there, then_begins}
 use Rattle.lane_core.proofs.StageWays.{swept_way}
 use Rattle.lane_core.proofs.Ways.{HasWay, then_way, way_read}
-use Rattle.lane_core.proofs.Grown.{spends}
-use Rattle.lane_core.proofs.EntryCounts.{Recounts, none_recounted}
+use Rattle.lane_stages.proofs.Grown.{spends}
+use Rattle.lane_stages.proofs.EntryCounts.{Recounts, none_recounted}
 use Rattle.lane_core.proofs.NameLaws.{rebound_same}
 use Rattle.lane_core.proofs.ContextLaws.{Advances, advances_none, spends_at}
 use Rattle.lane_core.proofs.ContextGrown.{grew, lengthened}

@@ -16,27 +16,28 @@ use Rattle.shared_pool.specs.declared.pool.SharedPool.{SharedPool}
 use Rattle.shared_pool.specs.Closing.{entry_of}
 use Rattle.shared_pool.specs.SeatLanes.{lane_of}
 use Rattle.seat_work.specs.Hands.{empty_hand}
-use Rattle.lane_core.specs.declared.copying.Copying.{Copying as CopyStage}
-use Rattle.lane_core.specs.declared.copying.Copying.TheVariants.{Get, Set}
-use Rattle.lane_core.specs.declared.stage_step.StageStep.{StageStep}
-use Rattle.lane_core.specs.declared.stage_step.StageStep.TheVariants.{More, Held as HeldBack, Done}
-use Rattle.lane_core.specs.declared.counts.Counted.{Counted}
+use Rattle.lane_stages.specs.declared.copying.Copying.{Copying as CopyStage}
+use Rattle.lane_stages.specs.declared.copying.Copying.TheVariants.{Get, Set}
+use Rattle.lane_stages.specs.declared.stage_step.StageStep.{StageStep}
+use Rattle.lane_stages.specs.declared.stage_step.StageStep.TheVariants.{More, Held as HeldBack, Done}
+use Rattle.lane_stages.specs.declared.counts.Counted.{Counted}
 use Rattle.lane_core.specs.declared.context.Context.{Context}
 use Rattle.lane_core.specs.declared.context.Stage.TheVariants.{Copying, Replacing}
 use Rattle.lane_core.specs.declared.context.Turn.TheVariants.{Went, Pending}
-use Rattle.lane_core.specs.declared.releasing.Releasing.{Releasing}
-use Rattle.lane_core.specs.Budgets.{Left, Spends}
+use Rattle.lane_stages.specs.declared.releasing.Releasing.{Releasing}
+use Rattle.lane_stages.specs.Budgets.{Left, Spends}
 use Rattle.lane_core.specs.Composing.{IsBindable}
-use Rattle.lane_core.specs.Copyings as copying
-use Rattle.lane_core.specs.Counting.{CountsAre}
-use Rattle.lane_core.specs.Logs.{HasWritten}
+use Rattle.lane_stages.specs.Copyings as copying
+use Rattle.lane_stages.specs.Counting.{CountsAre}
+use Rattle.lane_stages.specs.Logs.{HasWritten}
 use Rattle.lane_core.specs.Named.{NamesAre}
-use Rattle.lane_core.specs.Readings.{none_asked, renamed, swept}
-use Rattle.lane_core.specs.Releasings as releasing
-use Rattle.lane_core.specs.Releasings.{AreUncounted}
-use Rattle.lane_core.specs.Wrote.{Wrote}
+use Rattle.lane_stages.specs.Readings.{none_asked}
+use Rattle.lane_core.specs.Readings.{renamed, swept}
+use Rattle.lane_stages.specs.Releasings as releasing
+use Rattle.lane_stages.specs.Releasings.{AreUncounted}
+use Rattle.lane_stages.specs.Wrote.{Wrote}
 use Rattle.lane_core.specs.Contexts.{HasRoomFor, HasTurned, IsContext, entries_of, log_of, reads_from, with_parts}
-use Rattle.lane_core.proofs.NextNotes.{then_begins}
+use Rattle.lane_stages.proofs.NextNotes.{then_begins}
 use Rattle.lane_core.proofs.PartTurns.{Moved, between, bindable_on, moved_grew, moved_on, moved_read, moved_spends, moved_still}
 use Rattle.lane_core.proofs.StageTurns.{none_of, some_of}
 

@@ -19,34 +19,35 @@ use Rattle.shared_pool.specs.SeatLanes.{lane_of}
 use Rattle.seat_work.specs.Hands.{empty_hand}
 use Rattle.lane_core.specs.declared.access.Refusal.{Refusal}
 use Rattle.lane_core.specs.declared.composed.Marks.{Marks}
-use Rattle.lane_core.specs.declared.counts.Counted.{Counted}
-use Rattle.lane_core.specs.declared.crossing.Crossing.{Crossing as CrossStage}
-use Rattle.lane_core.specs.declared.crossing.Crossing.TheVariants.{Set, Get}
-use Rattle.lane_core.specs.declared.crossing.Crossed.{Crossed}
-use Rattle.lane_core.specs.declared.crossing.Crossed.TheVariants.{Set as WasSet, Got as WasGot}
-use Rattle.lane_core.specs.declared.stage_step.StageStep.{StageStep}
-use Rattle.lane_core.specs.declared.stage_step.StageStep.TheVariants.{More, Held as HeldBack, Done}
-use Rattle.lane_core.specs.declared.crossing.Stretch.{Stretch}
+use Rattle.lane_stages.specs.declared.counts.Counted.{Counted}
+use Rattle.lane_stages.specs.declared.crossing.Crossing.{Crossing as CrossStage}
+use Rattle.lane_stages.specs.declared.crossing.Crossing.TheVariants.{Set, Get}
+use Rattle.lane_stages.specs.declared.crossing.Crossed.{Crossed}
+use Rattle.lane_stages.specs.declared.crossing.Crossed.TheVariants.{Set as WasSet, Got as WasGot}
+use Rattle.lane_stages.specs.declared.stage_step.StageStep.{StageStep}
+use Rattle.lane_stages.specs.declared.stage_step.StageStep.TheVariants.{More, Held as HeldBack, Done}
+use Rattle.lane_stages.specs.declared.crossing.Stretch.{Stretch}
 use Rattle.lane_core.specs.declared.context.Context.{Context}
 use Rattle.lane_core.specs.declared.context.Stage.TheVariants.{Ready, Crossing}
 use Rattle.lane_core.specs.declared.context.Turn.{Turn}
 use Rattle.lane_core.specs.declared.context.Turn.TheVariants.{Went, Pending}
 use Rattle.lane_core.specs.declared.work.Work.TheVariants.{Refused, Empty, Cross}
 use Rattle.lane_core.specs.Accesses.{reply_for}
-use Rattle.lane_core.specs.Budgets.{Left, Spends, notes_alone}
+use Rattle.lane_stages.specs.Budgets.{Left, Spends, notes_alone}
 use Rattle.lane_core.specs.Composing.{IsReachable, MarksFit, changed, crossed, marked, reply_of, set_marks}
-use Rattle.lane_core.specs.Counting.{CountsAre}
-use Rattle.lane_core.specs.Crossings as crossing
-use Rattle.lane_core.specs.Logs.{HasWritten}
+use Rattle.lane_stages.specs.Counting.{CountsAre}
+use Rattle.lane_stages.specs.Crossings as crossing
+use Rattle.lane_stages.specs.Logs.{HasWritten}
 use Rattle.lane_core.specs.Named.{NamesAre, known_to}
-use Rattle.lane_core.specs.Readings.{none_asked, renamed, swept}
-use Rattle.lane_core.specs.Wrote.{Wrote}
+use Rattle.lane_stages.specs.Readings.{none_asked}
+use Rattle.lane_core.specs.Readings.{renamed, swept}
+use Rattle.lane_stages.specs.Wrote.{Wrote}
 use Rattle.lane_core.specs.Contexts.{HasRoomFor, HasTurned, IsContext, entries_of, log_of, reads_from}
 use Rattle.lane_core.specs.ContextSteps.{CanAnswer, HasMarked, HasReplied, MarksMoved, MayGoOn, MayTurn, StageTurns}
 use Rattle.lane_core.specs.Works.{IsReady, WorkTurns, left_of}
-use Rattle.lane_core.proofs.NextNotes.{then_begins}
+use Rattle.lane_stages.proofs.NextNotes.{then_begins}
 use Rattle.lane_core.proofs.ContextLaws.{can_answer}
-use Rattle.lane_core.proofs.SeatCounts.{has_count}
+use Rattle.lane_stages.proofs.SeatCounts.{has_count}
 use Rattle.lane_core.proofs.NameLaws.{NamesAre-changed, Rebound, rebound_marks, rebound_same}
 use Rattle.lane_core.proofs.PartTurns.{Moved, between, moved_answer, moved_can, moved_grew, moved_on, moved_read, moved_spends, moved_still}
 use Rattle.lane_core.proofs.StageTurns.{none_of, some_of}

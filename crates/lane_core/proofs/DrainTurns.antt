@@ -13,31 +13,33 @@ use Rattle.shared_pool.specs.SeatViews.{view_of}
 use Rattle.shared_pool.specs.declared.pool.SharedPool.{SharedPool}
 use Rattle.shared_pool.specs.Closing.{entry_of}
 use Rattle.shared_pool.specs.SeatLanes.{lane_of}
-use Rattle.lane_core.specs.declared.counts.Counted.{Counted}
+use Rattle.lane_stages.specs.declared.counts.Counted.{Counted}
 use Rattle.lane_core.specs.declared.context.Context.{Context}
 use Rattle.lane_core.specs.declared.context.Stage.TheVariants.{Ready, Sweeping, Closing}
 use Rattle.lane_core.specs.declared.context.Turn.TheVariants.{Went, Pending}
-use Rattle.lane_core.specs.declared.draining.DrainKind.{DrainKind}
-use Rattle.lane_core.specs.declared.draining.DrainKind.TheVariants.{Trim, Close}
-use Rattle.lane_core.specs.declared.draining.Draining.{Draining}
-use Rattle.lane_core.specs.declared.draining.Draining.TheVariants.{Ask, Shed, Give, Done as AllDrained}
-use Rattle.lane_core.specs.declared.draining.Drains.{Drains}
-use Rattle.lane_core.specs.declared.draining.Drains.TheVariants.{More as DrainMore, Held as DrainHeld}
-use Rattle.lane_core.specs.Drainings as draining
-use Rattle.lane_core.specs.Budgets.{Left, Spends}
-use Rattle.lane_core.specs.Counting.{counted}
+use Rattle.lane_stages.specs.declared.draining.DrainKind.{DrainKind}
+use Rattle.lane_stages.specs.declared.draining.DrainKind.TheVariants.{Trim, Close}
+use Rattle.lane_stages.specs.declared.draining.Draining.{Draining}
+use Rattle.lane_stages.specs.declared.draining.Draining.TheVariants.{Ask, Shed, Give, Done as AllDrained}
+use Rattle.lane_stages.specs.declared.draining.Drains.{Drains}
+use Rattle.lane_stages.specs.declared.draining.Drains.TheVariants.{More as DrainMore, Held as DrainHeld}
+use Rattle.lane_stages.specs.Drainings as draining
+use Rattle.lane_stages.specs.Budgets.{Left, Spends}
+use Rattle.lane_stages.specs.Counting.{counted}
 use Rattle.seat_work.specs.Hands.{Hand, empty_hand}
 use Rattle.lane_core.specs.Named.{NamesAre}
-use Rattle.lane_core.specs.NextNotes.{BeginsAt}
-use Rattle.lane_core.specs.Readings.{ReadsOn, none_asked, renamed}
+use Rattle.lane_stages.specs.NextNotes.{BeginsAt}
+use Rattle.seat_work.specs.Readings.{ReadsOn}
+use Rattle.lane_stages.specs.Readings.{none_asked}
+use Rattle.lane_core.specs.Readings.{renamed}
 use Rattle.lane_core.specs.Contexts.{IsContext, reads_from, ContextGrew, SpendsAt, HasTurned, HasTurnedClosing}
 use Rattle.lane_core.specs.ContextSteps.{HasNoted, HasReplied}
-use Rattle.lane_core.proofs.NextNotes.{then_begins}
+use Rattle.lane_stages.proofs.NextNotes.{then_begins}
 use Rattle.lane_core.proofs.NameLaws.{rebound_same}
 use Rattle.seat_work.proofs.HandNotes.{drained_held}
-use Rattle.lane_core.proofs.ReadLaws.{then_on, given_on}
+use Rattle.seat_work.proofs.ReadLaws.{then_on, given_on}
 use Rattle.lane_core.proofs.ContextGrown.{answer_reads, noted_so}
-use Rattle.lane_core.proofs.SeatCounts.{adds_recounted}
+use Rattle.lane_stages.proofs.SeatCounts.{adds_recounted}
 use Rattle.lane_core.proofs.StageTurns.{Staged, none_of, some_of, staged, staged_answer, staged_grew, staged_on, staged_seat, staged_still}
 
 module _ (pool : SharedPool) (old mid : Context) (kind : DrainKind) (stage : Draining)

@@ -14,29 +14,31 @@ use Rattle.shared_pool.specs.declared.pool.SharedPool.{SharedPool}
 use Rattle.shared_pool.specs.Closing.{entry_of}
 use Rattle.shared_pool.specs.SeatLanes.{lane_of}
 use Rattle.shared_pool.specs.Seats.{FoundBusy}
-use Rattle.lane_core.specs.declared.counts.Counted.{Counted}
+use Rattle.lane_stages.specs.declared.counts.Counted.{Counted}
 use Rattle.lane_core.specs.declared.context.Context.{Context}
 use Rattle.lane_core.specs.declared.context.Stage.TheVariants.{Ready, Ending}
 use Rattle.lane_core.specs.declared.context.Turn.TheVariants.{Went, Pending}
-use Rattle.lane_core.specs.declared.retirement.Ending.{Ending as EndStage}
-use Rattle.lane_core.specs.declared.retirement.Ending.TheVariants.{Root as EndRoot, Cache as EndCache, Arena as EndArena, Home as EndHome}
-use Rattle.lane_core.specs.declared.stage_step.StageStep.{StageStep}
-use Rattle.lane_core.specs.declared.stage_step.StageStep.TheVariants.{More, Held as HeldBack, Done}
-use Rattle.lane_core.specs.Endings as ending
-use Rattle.lane_core.specs.Budgets.{Spends, notes_alone}
-use Rattle.lane_core.specs.Counting.{counted}
+use Rattle.lane_stages.specs.declared.retirement.Ending.{Ending as EndStage}
+use Rattle.lane_stages.specs.declared.retirement.Ending.TheVariants.{Root as EndRoot, Cache as EndCache, Arena as EndArena, Home as EndHome}
+use Rattle.lane_stages.specs.declared.stage_step.StageStep.{StageStep}
+use Rattle.lane_stages.specs.declared.stage_step.StageStep.TheVariants.{More, Held as HeldBack, Done}
+use Rattle.lane_stages.specs.Endings as ending
+use Rattle.lane_stages.specs.Budgets.{Spends, notes_alone}
+use Rattle.lane_stages.specs.Counting.{counted}
 use Rattle.seat_work.specs.Hands.{Hand, empty_hand}
 use Rattle.lane_core.specs.Named.{NamesAre}
-use Rattle.lane_core.specs.NextNotes.{BeginsAt}
-use Rattle.lane_core.specs.Readings.{ReadsOn, none_asked, swept, renamed}
+use Rattle.lane_stages.specs.NextNotes.{BeginsAt}
+use Rattle.seat_work.specs.Readings.{ReadsOn}
+use Rattle.lane_stages.specs.Readings.{none_asked}
+use Rattle.lane_core.specs.Readings.{swept, renamed}
 use Rattle.lane_core.specs.Contexts.{IsContext, reads_from, HasTurned}
 use Rattle.lane_core.specs.ContextSteps.{HasNoted, HasReplied}
-use Rattle.lane_core.proofs.NextNotes.{then_begins}
+use Rattle.lane_stages.proofs.NextNotes.{then_begins}
 use Rattle.lane_core.proofs.NameLaws.{rebound_same}
-use Rattle.lane_core.proofs.ReadLaws.{then_on, given_on}
+use Rattle.seat_work.proofs.ReadLaws.{then_on, given_on}
 use Rattle.lane_core.proofs.ContextLaws.{spends_at}
 use Rattle.lane_core.proofs.ContextGrown.{swept_reads, noted_so}
-use Rattle.lane_core.proofs.SeatCounts.{adds_recounted}
+use Rattle.lane_stages.proofs.SeatCounts.{adds_recounted}
 use Rattle.lane_core.proofs.StageTurns.{Staged, none_of, some_of, staged, staged_answer, staged_counts, staged_grew, staged_names, staged_on, staged_seat, staged_still}
 
 -- it asks no cache

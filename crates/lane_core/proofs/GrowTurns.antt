@@ -28,38 +28,39 @@ use Rattle.shared_pool.specs.SeatLanes.{lane_of}
 use Rattle.seat_work.specs.Hands.{Hand, empty_hand}
 use Rattle.lane_core.specs.declared.access.Refusal.{Refusal}
 use Rattle.lane_core.specs.declared.access.Refusal.TheVariants.{TooLarge}
-use Rattle.lane_core.specs.declared.counts.Counted.{Counted}
+use Rattle.lane_stages.specs.declared.counts.Counted.{Counted}
 use Rattle.lane_core.specs.declared.context.Context.{Context}
 use Rattle.lane_core.specs.declared.context.Stage.TheVariants.{Ready, Growing}
 use Rattle.lane_core.specs.declared.context.Turn.{Turn}
 use Rattle.lane_core.specs.declared.context.Turn.TheVariants.{Went, Pending}
-use Rattle.lane_core.specs.declared.growing.Growing.{Growing as GrowStage}
-use Rattle.lane_core.specs.declared.growing.Growing.TheVariants as at
-use Rattle.lane_core.specs.declared.growing.Regrown.{Regrown}
-use Rattle.lane_core.specs.declared.growing.Regrown.TheVariants.{Has, Full}
-use Rattle.lane_core.specs.declared.stage_step.StageStep.{StageStep}
-use Rattle.lane_core.specs.declared.stage_step.StageStep.TheVariants.{More, Held as GrowHeld, Done}
+use Rattle.lane_stages.specs.declared.growing.Growing.{Growing as GrowStage}
+use Rattle.lane_stages.specs.declared.growing.Growing.TheVariants as at
+use Rattle.lane_stages.specs.declared.growing.Regrown.{Regrown}
+use Rattle.lane_stages.specs.declared.growing.Regrown.TheVariants.{Has, Full}
+use Rattle.lane_stages.specs.declared.stage_step.StageStep.{StageStep}
+use Rattle.lane_stages.specs.declared.stage_step.StageStep.TheVariants.{More, Held as GrowHeld, Done}
 use Rattle.lane_core.specs.Accesses.{IsRefused, IsState, reply_for}
-use Rattle.lane_core.specs.Budgets.{Left, Spends, notes_alone}
-use Rattle.lane_core.specs.Counting.{CountsAre, counted}
-use Rattle.lane_core.specs.Growings as growing
+use Rattle.lane_stages.specs.Budgets.{Left, Spends, notes_alone}
+use Rattle.lane_stages.specs.Counting.{CountsAre, counted}
+use Rattle.lane_stages.specs.Growings as growing
 use Rattle.lane_core.specs.Named.{NamesAre, bound_at, known_to}
-use Rattle.lane_core.specs.NextNotes.{BeginsAt}
-use Rattle.lane_core.specs.Readings.{ReadsOn, renamed, swept}
-use Rattle.lane_core.specs.Wrote.{Wrote}
+use Rattle.lane_stages.specs.NextNotes.{BeginsAt}
+use Rattle.seat_work.specs.Readings.{ReadsOn}
+use Rattle.lane_core.specs.Readings.{renamed, swept}
+use Rattle.lane_stages.specs.Wrote.{Wrote}
 use Rattle.lane_core.specs.Contexts.{HasRoomFor, HasTurned, IsContext, entries_of, left_for, reads_from}
 use Rattle.lane_core.specs.ContextSteps.{CanAnswer, Concludes, HasNoted, HasReplied, MayGoOn, MayTurn}
 use Rattle.lane_core.proofs.BeginTurns as begin
 use Rattle.lane_core.proofs.BeginTurns.{within_same, within_sheds}
 use Rattle.lane_core.proofs.ContextGrown.{noted_so}
 use Rattle.lane_core.proofs.ContextLaws.{entries_more, spends_at}
-use Rattle.lane_core.proofs.EntryCounts.{Recounts}
-use Rattle.lane_core.proofs.Knowing.{knows_more}
+use Rattle.lane_stages.proofs.EntryCounts.{Recounts}
+use Rattle.lane_stages.proofs.Knowing.{knows_more}
 use Rattle.lane_core.proofs.NameLaws.{NamesAre-bind, bound_within, rebound_same, rebound_view}
-use Rattle.lane_core.proofs.NextNotes.{then_begins}
+use Rattle.lane_stages.proofs.NextNotes.{then_begins}
 use Rattle.lane_core.proofs.PartTurns.{recounts_between}
-use Rattle.lane_core.proofs.ReadLaws.{given_on, then_on}
-use Rattle.lane_core.proofs.SeatCounts.{has_count}
+use Rattle.seat_work.proofs.ReadLaws.{given_on, then_on}
+use Rattle.lane_stages.proofs.SeatCounts.{has_count}
 use Rattle.lane_core.proofs.StageNeeds.{answers_behind}
 use Rattle.lane_core.proofs.StageTurns.{Staged, none_of, some_of, staged_concludes, staged_grew, staged_on, staged_still}
 use Rattle.lane_core.proofs.StateReads.{goes, refused_view, refuses, used_view, viewed}

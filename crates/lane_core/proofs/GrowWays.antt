@@ -14,11 +14,12 @@ use Rattle.pool_law.specs.Logs.{ToldNote}
 use Rattle.pool_law.specs.Patterns.{ask_arena, give_back, grow_with, obtain, one_more, put_away, regrow}
 use Rattle.pool_law.specs.Readers.{ToldNotes, Reader, ◌>>◌, give}
 use Rattle.pool_law.proofs.PatternLemmas.{same_root-refl}
-use Rattle.lane_core.specs.declared.growing.Growing.{Growing}
-use Rattle.lane_core.specs.declared.growing.Growing.TheVariants.{Ask, Cache, Arena, Grow, Put, Give}
-use Rattle.lane_core.specs.Growings as growing
-use Rattle.lane_core.specs.Readings.{ReadsOn, none_asked}
-use Rattle.lane_core.proofs.GrowReads.{read_extended, read_grown}
+use Rattle.lane_stages.specs.declared.growing.Growing.{Growing}
+use Rattle.lane_stages.specs.declared.growing.Growing.TheVariants.{Ask, Cache, Arena, Grow, Put, Give}
+use Rattle.lane_stages.specs.Growings as growing
+use Rattle.seat_work.specs.Readings.{ReadsOn}
+use Rattle.lane_stages.specs.Readings.{none_asked}
+use Rattle.lane_stages.proofs.GrowReads.{read_extended, read_grown}
 use Rattle.lane_core.proofs.Ways.{HasWay, Taken, arena_way, give_back_way, give_way, obtain_way, put_away_way, then_way}
 
 -- over these entries it goes on as one that can be read

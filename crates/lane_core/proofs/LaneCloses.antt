@@ -11,13 +11,14 @@ use Rattle.lane_core.specs.declared.context.Context.{Context}
 use Rattle.lane_core.specs.declared.context.Stage.{Stage}
 use Rattle.lane_core.specs.declared.context.Stage.TheVariants.{Ready, Closing}
 use Rattle.lane_core.specs.declared.context.Turn.{Turn}
-use Rattle.lane_core.specs.declared.draining.DrainKind.TheVariants.{Close}
-use Rattle.lane_core.specs.declared.draining.Draining.{Draining}
-use Rattle.lane_core.specs.declared.draining.Draining.TheVariants.{Ask}
+use Rattle.lane_stages.specs.declared.draining.DrainKind.TheVariants.{Close}
+use Rattle.lane_stages.specs.declared.draining.Draining.{Draining}
+use Rattle.lane_stages.specs.declared.draining.Draining.TheVariants.{Ask}
 use Rattle.lane_core.specs.declared.lane.Lane.{Lane}
-use Rattle.lane_core.specs.declared.lane.Stepped.{Stepped}
-use Rattle.lane_core.specs.Drainings as draining
-use Rattle.lane_core.specs.Readings.{ReadsOn, none_asked, behind}
+use Rattle.lane_stages.specs.declared.stepped.Stepped.{Stepped}
+use Rattle.lane_stages.specs.Drainings as draining
+use Rattle.seat_work.specs.Readings.{ReadsOn, behind}
+use Rattle.lane_stages.specs.Readings.{none_asked}
 use Rattle.lane_core.specs.Contexts.{IsContext, hand_of, Fits, HasRoomFor, next_of, HasTurnedClosing}
 use Rattle.lane_core.specs.Lanes.{Heeds, IsRunningLane, reads_closing, IsClosing, IsBegun, SameLane, commands_left, entries_since, number_of}
 use Rattle.lane_core.specs.Steps.{HasStepped, stepped_of}

@@ -22,13 +22,13 @@ use Rattle.lane_core.specs.declared.context.Stage.TheVariants.{Ready}
 use Rattle.lane_core.specs.declared.context.Turn.{Turn}
 use Rattle.lane_core.specs.declared.context.Turn.TheVariants.{Went, Pending, Waiting}
 use Rattle.lane_core.specs.declared.lane.Lane.{Lane}
-use Rattle.lane_core.specs.declared.lane.Stepped.{Stepped}
-use Rattle.lane_core.specs.declared.lane.Stepped.TheVariants.{Went as StepWent, Pending as StepPending}
+use Rattle.lane_stages.specs.declared.stepped.Stepped.{Stepped}
+use Rattle.lane_stages.specs.declared.stepped.Stepped.TheVariants.{Went as StepWent, Pending as StepPending}
 use Rattle.lane_core.specs.Accesses.{IsState}
-use Rattle.lane_core.specs.Counting.{CountsAre}
-use Rattle.lane_core.specs.Budgets.{Left}
+use Rattle.lane_stages.specs.Counting.{CountsAre}
+use Rattle.lane_stages.specs.Budgets.{Left}
 use Rattle.lane_core.specs.Named.{NamesAre}
-use Rattle.lane_core.specs.NextNotes.{BeginsAt, CanBeRead}
+use Rattle.lane_stages.specs.NextNotes.{BeginsAt, CanBeRead}
 use Rattle.lane_core.specs.Readings.{renamed}
 use Rattle.lane_core.specs.Contexts.{notes_of, entries_of, log_of, hand_of, Fits, IsUnderway, HasRoomFor, SpendsAt, left_for, left_at, left_now, reads_from, next_of, HasTurned}
 use Rattle.lane_core.specs.Lanes.{Heeds, IsRunningLane, IsClosing, IsAtRest, IsBegun, IsResting, SameLane, commands_left, answered_entries, entries_since, number_of}

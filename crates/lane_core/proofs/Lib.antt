@@ -1,27 +1,12 @@
-pub mod Knowing
 pub mod NameLaws
-pub mod CountLaws
 pub mod AccessLaws
 pub mod AccessNames
 pub mod RoomLaws
 pub mod OpenedLaws
-pub mod LogLaws
-pub mod Grown
-pub mod RegionReads
-pub mod Readings
-pub mod NextNotes
 pub mod Ways
 pub mod GrowWays
 pub mod StageWays
-pub mod OneNote
-pub mod AllotSteps
-pub mod AllotBirths
-pub mod EndSteps
-pub mod Outs
 pub mod ReadLaws
-pub mod DrainSteps
-pub mod EntryCounts
-pub mod SeatCounts
 pub mod StateReads
 pub mod RefusalLists
 pub mod CompositionTests
@@ -61,13 +46,6 @@ pub mod LaneKept
 pub mod LaneTurns
 pub mod Carrying
 pub mod LaneCloses
-pub mod VecLaws
-pub mod PartReads
-pub mod PartSteps
-pub mod CrossSteps
-pub mod CopySteps
-pub mod Skipping
-pub mod ReleaseSteps
 pub mod PartTurns
 pub mod ReleaseTurns
 pub mod CopyTurns
@@ -90,9 +68,3 @@ mod PlacedBirths
 mod PlayedLeaks
 mod PlayedReported
 mod PlayedRun
-pub mod KnownLaws
-pub mod GrowCounts
-pub mod GrowReads
-pub mod GrowSteps
-pub mod GrowAsks
-pub mod GrowEnds

@@ -11,7 +11,7 @@ use Rattle.composite_buf.specs.Maps.{Fits}
 use Rattle.composite_buf.proofs.MapLaws.{size_of-append}
 use Rattle.lane_core.specs.declared.context.Context.{Context}
 use Rattle.lane_core.specs.Compositions.{IsPlaced, MayMake, joined, readable_at, readable_of, refusals_to_add, refusals_to_compose}
-use Rattle.lane_core.specs.Counting.{counted}
+use Rattle.lane_stages.specs.Counting.{counted}
 use Rattle.lane_core.specs.Contexts.{FitsContext}
 use Rattle.lane_core.specs.Named.{AreComposites, AreInside, IsInRoot, bound_at, known_to}
 use Rattle.lane_core.proofs.CompositionTests.{clear_to_add, counts-readable, length-readable, one_part, shown_to_compose}

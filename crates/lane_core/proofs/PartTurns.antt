@@ -21,28 +21,30 @@ use Rattle.shared_pool.specs.SeatLanes.{lane_of}
 use Rattle.shared_pool.specs.Seats.{IsPoolSeat}
 use Rattle.seat_work.specs.Growth.{HasMore}
 use Rattle.seat_work.specs.Hands.{Hand, empty_hand, IsHeld}
-use Rattle.lane_core.specs.declared.counts.Counted.{Counted}
+use Rattle.lane_stages.specs.declared.counts.Counted.{Counted}
 use Rattle.lane_core.specs.declared.context.Context.{Context}
 use Rattle.lane_core.specs.declared.context.Stage.{Stage}
 use Rattle.lane_core.specs.declared.context.Stage.TheVariants.{Ready, Allotting, Ending, Sweeping, Closing, Crossing, Parting, Consolidating, Copying, Replacing, Growing}
 use Rattle.lane_core.specs.declared.context.Turn.{Turn}
 use Rattle.lane_core.specs.declared.context.Turn.TheVariants.{Went, Pending, Waiting}
-use Rattle.lane_core.specs.declared.draining.Draining.TheVariants.{Ask}
-use Rattle.lane_core.specs.Drainings as draining
-use Rattle.lane_core.specs.Budgets.{Left, Spends, notes_alone, with_sheds}
+use Rattle.lane_stages.specs.declared.draining.Draining.TheVariants.{Ask}
+use Rattle.lane_stages.specs.Drainings as draining
+use Rattle.lane_stages.specs.Budgets.{Left, Spends, notes_alone, with_sheds}
 use Rattle.lane_core.specs.Composing.{IsBindable, IsCandidate}
-use Rattle.lane_core.specs.Counting.{CountsAre, counted}
-use Rattle.lane_core.specs.Logs.{HasWritten}
+use Rattle.lane_stages.specs.Counting.{CountsAre, counted}
+use Rattle.lane_stages.specs.Logs.{HasWritten}
 use Rattle.lane_core.specs.Named.{NamesAre, known_to}
-use Rattle.lane_core.specs.Readings.{ReadsOn, none_asked, swept}
-use Rattle.lane_core.specs.Releasings.{ReadsOnWith}
-use Rattle.lane_core.specs.Sampled.{AreSampled}
+use Rattle.seat_work.specs.Readings.{ReadsOn}
+use Rattle.lane_stages.specs.Readings.{none_asked}
+use Rattle.lane_core.specs.Readings.{swept}
+use Rattle.lane_stages.specs.Releasings.{ReadsOnWith}
+use Rattle.lane_stages.specs.Sampled.{AreSampled}
 use Rattle.lane_core.specs.Contexts.{IsContext, ContextGrew, GoesOn, HasRoomFor, HasTurned, SpendsAt, Waits, entries_of, left_now, log_of, reads_from}
 use Rattle.lane_core.specs.ContextSteps.{CanAnswer, Concludes, HasNoted, HasReplied}
 use Rattle.lane_core.proofs.ContextGrown.{answered, grew, lengthened, mid_grew, noted_so}
 use Rattle.lane_core.proofs.ContextLaws.{Advances, entries_more, reads_at, spends_at}
-use Rattle.lane_core.proofs.EntryCounts.{Recounts, counts_append}
-use Rattle.lane_core.proofs.Knowing.{knows_more}
+use Rattle.lane_stages.proofs.EntryCounts.{Recounts, counts_append}
+use Rattle.lane_stages.proofs.Knowing.{knows_more}
 use Rattle.lane_core.proofs.NameLaws.{RebindsAt, parts_later, rebound_more}
 use Rattle.lane_core.proofs.ReadLaws.{sweeps_on, unswept}
 use Rattle.lane_core.proofs.StageNeeds.{answers_behind}

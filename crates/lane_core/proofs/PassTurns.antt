@@ -24,14 +24,14 @@ use Rattle.lane_core.specs.declared.context.Context.{Context}
 use Rattle.lane_core.specs.declared.context.Stage.TheVariants.{Ready}
 use Rattle.lane_core.specs.declared.context.Turn.TheVariants.{Went}
 use Rattle.seat_work.specs.Hands.{lane_in, empty_hand}
-use Rattle.lane_core.specs.Budgets.{Left, Spends, notes_alone, takes}
-use Rattle.lane_core.specs.Sampled.{AreSampled}
+use Rattle.lane_stages.specs.Budgets.{Left, Spends, notes_alone, takes}
+use Rattle.lane_stages.specs.Sampled.{AreSampled}
 use Rattle.lane_core.specs.Contexts.{IsContext, notes_of, HasRoomFor, left_for, PassesOver}
 use Rattle.lane_core.specs.ContextSteps.{CanAnswer, HasNoted, HasReplied, HasPosted}
 use Rattle.seat_work.proofs.Grown.{Grows}
-use Rattle.lane_core.proofs.Grown.{spends}
-use Rattle.lane_core.proofs.EntryCounts.{Recounts, none_recounted, still}
-use Rattle.lane_core.proofs.ReadLaws.{note_on}
+use Rattle.lane_stages.proofs.Grown.{spends}
+use Rattle.lane_stages.proofs.EntryCounts.{Recounts, none_recounted, still}
+use Rattle.seat_work.proofs.ReadLaws.{note_on}
 use Rattle.lane_core.proofs.ContextLaws.{Advances, spends_at}
 use Rattle.lane_core.proofs.ContextGrown.{grew, length_is, lengthened}
 use Rattle.lane_core.proofs.Turning.{grows_same}

@@ -12,7 +12,7 @@ use Rattle.pool_law.specs.Names.{Bound, Composed, Names, bind, composite_in, has
 use Rattle.pool_law.specs.Readers.{Log, ◌>>=◌, ◌>>◌, give, given}
 use Rattle.lane_core.specs.declared.access.Refusal.{Refusal}
 use Rattle.lane_core.specs.declared.composed.Marks.{Marks}
-use Rattle.lane_core.specs.declared.crossing.Crossing.{Crossing}
+use Rattle.lane_stages.specs.declared.crossing.Crossing.{Crossing}
 use Rattle.lane_core.specs.declared.context.Context.{Context}
 use Rattle.lane_core.specs.declared.work.Work.TheVariants.{End, Refused}
 use Rattle.lane_core.specs.Accesses.{IsState}

@@ -11,12 +11,12 @@ use Rattle.pool_law.specs.declared.id.RootId.{RootId}
 use Rattle.pool_law.specs.Composites.{Composite, cut, ranges, size_of}
 use Rattle.composite_buf.proofs.MapLaws.{size_of_cons, size_of_more, same_size}
 use Rattle.composite_buf.proofs.RangeLaws.{All-ranges, size_of-ranges}
-use Rattle.lane_core.specs.declared.counts.Counted.{Counted}
-use Rattle.lane_core.specs.declared.crossing.Crossing.TheVariants.{Set, Get}
-use Rattle.lane_core.specs.declared.crossing.Stretch.{Stretch}
+use Rattle.lane_stages.specs.declared.counts.Counted.{Counted}
+use Rattle.lane_stages.specs.declared.crossing.Crossing.TheVariants.{Set, Get}
+use Rattle.lane_stages.specs.declared.crossing.Stretch.{Stretch}
 use Rattle.lane_core.specs.Composing.{IsReachable}
-use Rattle.lane_core.specs.Counting.{counted}
-use Rattle.lane_core.specs.Crossings.{bytes_of, parts_of}
+use Rattle.lane_stages.specs.Counting.{counted}
+use Rattle.lane_stages.specs.Crossings.{bytes_of, parts_of}
 use Rattle.lane_core.specs.Named.{IsInRoot}
 use Rattle.lane_core.specs.Plans.{AreUsable, GetsAt, IsSized, SetsAt}
 

@@ -19,16 +19,16 @@ use Rattle.pool_law.specs.Refusals.{Refusal as Refuses, first_refusal, illegal, 
 use Rattle.lane_core.specs.declared.access.Refusal.{Refusal}
 use Rattle.lane_core.specs.declared.access.Refusal.TheVariants.{Unbound, Taken, Composite as NoComposite, Illegal, Range, Plain as NotComposite, TooLarge}
 use Rattle.lane_core.specs.declared.composed.Marks.{Marks}
-use Rattle.lane_core.specs.declared.counts.Counted.{Counted}
-use Rattle.lane_core.specs.declared.crossing.Crossing.{Crossing}
-use Rattle.lane_core.specs.declared.crossing.Crossing.TheVariants.{Set, Get}
+use Rattle.lane_stages.specs.declared.counts.Counted.{Counted}
+use Rattle.lane_stages.specs.declared.crossing.Crossing.{Crossing}
+use Rattle.lane_stages.specs.declared.crossing.Crossing.TheVariants.{Set, Get}
 use Rattle.lane_core.specs.declared.context.Context.{Context}
 use Rattle.lane_core.specs.declared.work.Work.TheVariants.{Refused}
 use Rattle.lane_core.specs.Accesses.{IsState, reply_for}
-use Rattle.lane_core.specs.Budgets.{notes_alone}
+use Rattle.lane_stages.specs.Budgets.{notes_alone}
 use Rattle.lane_core.specs.Composing.{MarksFit, crossed, marked, set_marks, rebound}
 use Rattle.lane_core.specs.Compositions.{counts_in}
-use Rattle.lane_core.specs.Crossings.{bytes_of, parts_of, stretches}
+use Rattle.lane_stages.specs.Crossings.{bytes_of, parts_of, stretches}
 use Rattle.lane_core.specs.Contexts.{left_for}
 use Rattle.lane_core.specs.Named.{AreComposites, AreInside, bound_at, known_to}
 use Rattle.lane_core.specs.Plans.{AreUsable, Gets, IsDenied, IsPlanOf, IsUsable, Sets, work_on}

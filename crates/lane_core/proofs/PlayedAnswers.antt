@@ -10,14 +10,15 @@ use Rattle.pool_law.specs.Readers.{ToldNotes, Log, ended_with}
 use Rattle.pool_law.proofs.HistoryLemmas.{append-nil}
 use Rattle.shared_pool.specs.declared.pool.SharedPool.{SharedPool}
 use Rattle.shared_pool.specs.Closing.{entry_of}
-use Rattle.lane_core.specs.declared.draining.DrainKind.TheVariants.{Close}
-use Rattle.lane_core.specs.declared.draining.Draining.TheVariants.{Done}
+use Rattle.lane_stages.specs.declared.draining.DrainKind.TheVariants.{Close}
+use Rattle.lane_stages.specs.declared.draining.Draining.TheVariants.{Done}
 use Rattle.lane_core.specs.declared.lane.Lane.{Lane}
 use Rattle.lane_core.specs.Contexts.{entries_of, notes_of}
-use Rattle.lane_core.specs.Drainings as draining
+use Rattle.lane_stages.specs.Drainings as draining
 use Rattle.lane_core.specs.Lanes.{HasPassedOver, IsClosing, entries_since, number_of}
 use Rattle.lane_core.specs.Played.{IsFinishedLane}
-use Rattle.lane_core.specs.Readings.{ReadsOn, none_asked}
+use Rattle.seat_work.specs.Readings.{ReadsOn}
+use Rattle.lane_stages.specs.Readings.{none_asked}
 use Rattle.lane_core.proofs.EitherLane.{lane_or, lane_context}
 use Rattle.lane_core.proofs.LaneCloses.{close_had}
 use Rattle.lane_core.proofs.StoppedLogs.{answered_passed}

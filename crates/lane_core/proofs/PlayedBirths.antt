@@ -13,7 +13,7 @@ use Rattle.pool_table.specs.declared.views.Entry.{Entry}
 use Rattle.pool_table.specs.declared.views.Entry.TheVariants.{At, Ref, Busy}
 use Rattle.leak_records.specs.Records.{Sampling, with_birth, watch_of}
 use Rattle.shared_pool.specs.Closing.{note_of}
-use Rattle.lane_core.specs.Sampled.{AreSampled, IsSampledBy, sampler_after}
+use Rattle.lane_stages.specs.Sampled.{AreSampled, IsSampledBy, sampler_after}
 
 -- a note is a birth, or it is none for the births and the sampler
 abbrev IsBirth : Did → Type 0

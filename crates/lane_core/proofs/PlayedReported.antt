@@ -26,7 +26,7 @@ use Rattle.shared_pool.specs.Closing.{logs_in, entries_in, note_of}
 use Rattle.shared_pool.specs.Live.{WasWatched, IsLive, live_of, AreLiveRoots}
 use Rattle.shared_pool.proofs.Openings.{map_at, there_at}
 use Rattle.shared_pool.proofs.ClosingWhole.{in_map}
-use Rattle.lane_core.specs.Sampled.{AreSampled}
+use Rattle.lane_stages.specs.Sampled.{AreSampled}
 use Rattle.lane_core.proofs.PlayedLists.{map-map, log-at}
 use Rattle.lane_core.proofs.PlayedReport.{In, same-leaks, index-of, pair-of, OnceEach, ascends}
 use Rattle.lane_core.proofs.PlayedBirths.{sampler_at, index-of_birth, birth-of_index}

@@ -7,7 +7,7 @@ use Rattle.shared_pool.specs.declared.pool.SharedPool.{SharedPool}
 use Rattle.shared_pool.specs.Seated.{HasNothing, IsDone, AreDone}
 use Rattle.shared_pool.proofs.Openings.{map_at}
 use Rattle.lane_core.specs.declared.context.Stage.TheVariants.{Closing}
-use Rattle.lane_core.specs.declared.draining.Draining.TheVariants.{Done}
+use Rattle.lane_stages.specs.declared.draining.Draining.TheVariants.{Done}
 use Rattle.lane_core.specs.declared.lane.Lane.{Lane}
 use Rattle.seat_work.specs.Hands.{IsHeld}
 use Rattle.lane_core.specs.Contexts.{hand_of}

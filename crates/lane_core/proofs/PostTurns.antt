@@ -33,25 +33,26 @@ use Rattle.shared_pool.specs.SeatLanes.{lane_of}
 use Rattle.shared_pool.specs.Seats.{IsPoolSeat}
 use Rattle.seat_work.proofs.HandNotes.{post_entry, fetch_entry, post_carries, fetch_carries}
 use Rattle.lane_core.specs.declared.access.Refusal.{Refusal}
-use Rattle.lane_core.specs.declared.counts.Counted.{Counted}
+use Rattle.lane_stages.specs.declared.counts.Counted.{Counted}
 use Rattle.lane_core.specs.declared.context.Context.{Context}
 use Rattle.lane_core.specs.declared.context.Stage.TheVariants.{Ready}
 use Rattle.lane_core.specs.declared.context.Turn.TheVariants.{Went}
 use Rattle.lane_core.specs.Accesses.{reply_for, IsState, IsRefused}
 use Rattle.seat_work.specs.Hands.{lane_in, empty_hand}
-use Rattle.lane_core.specs.Counting.{counted}
+use Rattle.lane_stages.specs.Counting.{counted}
 use Rattle.lane_core.specs.Named.{bound_at, NamesAre}
-use Rattle.lane_core.specs.Readings.{before_left, behind, ReadsOn, none_asked}
+use Rattle.seat_work.specs.Readings.{before_left, behind, ReadsOn}
+use Rattle.lane_stages.specs.Readings.{none_asked}
 use Rattle.lane_core.specs.Contexts.{IsContext, notes_of, entries_of, HasRoomFor, left_for, HasTurned}
 use Rattle.lane_core.specs.ContextSteps.{CanAnswer, HasNoted, HasReplied, HasPosted, CountsMore, CountsLess, MayTurn, left_to_post}
 use Rattle.lane_core.proofs.NameLaws.{NamesAre-bind, RebindsAt, rebound_same, rebound_view}
 use Rattle.seat_work.proofs.Grown.{Grows, grows_mailed, weigh_more}
 use Rattle.seat_work.proofs.HandLaws.{held_on}
-use Rattle.lane_core.proofs.EntryCounts.{Recounts, still, posted, fetched}
-use Rattle.lane_core.proofs.SeatCounts.{own_count, has_count, few_counted, stays_counted}
+use Rattle.lane_stages.proofs.EntryCounts.{Recounts, still, posted, fetched}
+use Rattle.lane_stages.proofs.SeatCounts.{own_count, has_count, few_counted, stays_counted}
 use Rattle.lane_core.proofs.StateReads.{used_view, refused_view, viewed, goes, refuses}
 use Rattle.lane_core.proofs.ContextLaws.{Advances, can_answer_noted}
-use Rattle.lane_core.proofs.ReadLaws.{given_on, note_on}
+use Rattle.seat_work.proofs.ReadLaws.{given_on, note_on}
 use Rattle.lane_core.proofs.Turning.{one_turn, one_turn_same, unstopped_for}
 
 -- a parcel is one post to its lane, and none to another

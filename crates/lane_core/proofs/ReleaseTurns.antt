@@ -23,28 +23,28 @@ use Rattle.shared_pool.specs.declared.pool.SharedPool.{SharedPool}
 use Rattle.shared_pool.specs.Closing.{entry_of, note_of}
 use Rattle.shared_pool.specs.SeatLanes.{lane_of}
 use Rattle.seat_work.specs.Hands.{empty_hand}
-use Rattle.lane_core.specs.declared.counts.Counted.{Counted}
+use Rattle.lane_stages.specs.declared.counts.Counted.{Counted}
 use Rattle.lane_core.specs.declared.context.Context.{Context}
 use Rattle.lane_core.specs.declared.context.Stage.TheVariants.{Ready, Parting, Replacing}
 use Rattle.lane_core.specs.declared.context.Turn.{Turn}
 use Rattle.lane_core.specs.declared.context.Turn.TheVariants.{Went, Pending}
-use Rattle.lane_core.specs.declared.retirement.Ending.{Ending}
-use Rattle.lane_core.specs.declared.releasing.Releasing.{Releasing}
-use Rattle.lane_core.specs.declared.stage_step.StageStep.{StageStep}
-use Rattle.lane_core.specs.declared.stage_step.StageStep.TheVariants.{More, Held as HeldBack, Done}
+use Rattle.lane_stages.specs.declared.retirement.Ending.{Ending}
+use Rattle.lane_stages.specs.declared.releasing.Releasing.{Releasing}
+use Rattle.lane_stages.specs.declared.stage_step.StageStep.{StageStep}
+use Rattle.lane_stages.specs.declared.stage_step.StageStep.TheVariants.{More, Held as HeldBack, Done}
 use Rattle.lane_core.specs.Composing.{HasLast, IsBindable, ended, released}
-use Rattle.lane_core.specs.Counting.{counted}
+use Rattle.lane_stages.specs.Counting.{counted}
 use Rattle.lane_core.specs.Named.{NamesAre, bound_at, known_to}
-use Rattle.lane_core.specs.NextNotes.{BeginsAt}
+use Rattle.lane_stages.specs.NextNotes.{BeginsAt}
 use Rattle.lane_core.specs.Readings.{renamed, swept}
-use Rattle.lane_core.specs.Releasings as releasing
-use Rattle.lane_core.specs.Releasings.{AreUncounted, IsOver, ReadsOnWith, hand_in, rest_in}
+use Rattle.lane_stages.specs.Releasings as releasing
+use Rattle.lane_stages.specs.Releasings.{AreUncounted, IsOver, ReadsOnWith, hand_in, rest_in}
 use Rattle.lane_core.specs.Contexts.{HasRoomFor, HasTurned, IsContext, log_of, notes_of, reads_from}
 use Rattle.lane_core.specs.ContextSteps.{CanAnswer, Concludes, HasReplied, bound_to, recounted}
-use Rattle.lane_core.proofs.NextNotes.{then_begins}
+use Rattle.lane_stages.proofs.NextNotes.{then_begins}
 use Rattle.lane_core.proofs.NameLaws.{NamesAre-bind, NamesAre-changed, rebound_composite, rebound_count, parts_later}
 use Rattle.lane_core.proofs.PartTurns.{Moved, between, bindable_on, moved_answer, moved_can, moved_concludes, moved_counts, moved_grew, moved_on, moved_spends, moved_still, moved_with}
-use Rattle.lane_core.proofs.Knowing.{knows_more}
+use Rattle.lane_stages.proofs.Knowing.{knows_more}
 use Rattle.shared_pool.specs.SeatViews.{view_of}
 use Rattle.lane_core.proofs.StageTurns.{none_of, some_of}
 

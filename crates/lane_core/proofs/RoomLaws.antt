@@ -11,7 +11,7 @@ use Rattle.std.proofs.lemmas.List.Sums.{sum_by-cons}
 use Rattle.std.proofs.lemmas.Option.{IfSome_then}
 use Rattle.pool_law.specs.declared.command.Command.{Command}
 use Rattle.pool_law.specs.Bounds.{composes, may_ask, most_notes, most_drained, note_bound}
-use Rattle.lane_core.specs.Budgets.{most_of_lane}
+use Rattle.lane_stages.specs.Budgets.{most_of_lane}
 use Rattle.lane_core.specs.Lanes.{left_for_each, left_for_all}
 use Rattle.lane_core.specs.Named.{changed_name, ChangesBelow}
 

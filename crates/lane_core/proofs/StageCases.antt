@@ -11,7 +11,7 @@ use Rattle.lane_core.specs.declared.context.Context.{Context}
 use Rattle.lane_core.specs.declared.context.Stage.{Stage}
 use Rattle.lane_core.specs.declared.context.Stage.TheVariants.{Ready, Allotting, Ending, Sweeping, Closing, Crossing, Parting, Consolidating, Copying, Replacing, Growing}
 use Rattle.lane_core.specs.declared.context.Turn.TheVariants.{Went, Pending}
-use Rattle.lane_core.specs.declared.draining.Draining.{Draining}
+use Rattle.lane_stages.specs.declared.draining.Draining.{Draining}
 use Rattle.lane_core.specs.Contexts.{IsUnderway, ComesTo, ClosesTo, GoesOn, PassesTo, Waits, left_after, left_at, left_now}
 use Rattle.lane_core.specs.Lanes.{IsAtRest, IsClosing}
 use Rattle.lane_core.specs.Readings.{renamed}

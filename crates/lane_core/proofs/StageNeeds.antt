@@ -13,26 +13,26 @@ use Rattle.shared_pool.specs.declared.pool.SharedPool.{SharedPool}
 use Rattle.shared_pool.specs.Closing.{note_of}
 use Rattle.shared_pool.specs.SeatLanes.{lane_of}
 use Rattle.lane_core.specs.declared.context.Context.{Context}
-use Rattle.lane_core.specs.declared.allotment.Allotting.{Allotting as AllotStage}
-use Rattle.lane_core.specs.declared.retirement.Ending.{Ending as EndStage}
-use Rattle.lane_core.specs.declared.stage_step.StageStep.{StageStep}
-use Rattle.lane_core.specs.declared.stage_step.StageStep.TheVariants.{Done}
-use Rattle.lane_core.specs.declared.draining.DrainKind.{DrainKind}
-use Rattle.lane_core.specs.declared.draining.Draining.{Draining}
-use Rattle.lane_core.specs.declared.draining.Draining.TheVariants.{Done as AllDrained}
-use Rattle.lane_core.specs.declared.draining.Drains.{Drains}
-use Rattle.lane_core.specs.Drainings as draining
-use Rattle.lane_core.specs.Allotments as allotment
-use Rattle.lane_core.specs.Endings as ending
-use Rattle.lane_core.specs.Budgets.{Left, Spends}
+use Rattle.lane_stages.specs.declared.allotment.Allotting.{Allotting as AllotStage}
+use Rattle.lane_stages.specs.declared.retirement.Ending.{Ending as EndStage}
+use Rattle.lane_stages.specs.declared.stage_step.StageStep.{StageStep}
+use Rattle.lane_stages.specs.declared.stage_step.StageStep.TheVariants.{Done}
+use Rattle.lane_stages.specs.declared.draining.DrainKind.{DrainKind}
+use Rattle.lane_stages.specs.declared.draining.Draining.{Draining}
+use Rattle.lane_stages.specs.declared.draining.Draining.TheVariants.{Done as AllDrained}
+use Rattle.lane_stages.specs.declared.draining.Drains.{Drains}
+use Rattle.lane_stages.specs.Drainings as draining
+use Rattle.lane_stages.specs.Allotments as allotment
+use Rattle.lane_stages.specs.Endings as ending
+use Rattle.lane_stages.specs.Budgets.{Left, Spends}
 use Rattle.seat_work.specs.Hands.{Hand}
-use Rattle.lane_core.specs.Sampled.{AreSampled, sampler_after}
+use Rattle.lane_stages.specs.Sampled.{AreSampled, sampler_after}
 use Rattle.seat_work.specs.Growth.{HasMore}
 use Rattle.lane_core.specs.Contexts.{IsContext, notes_of, HasRoomFor}
 use Rattle.lane_core.specs.ContextSteps.{HasNoted, CanAnswer}
-use Rattle.lane_core.proofs.AllotSteps.{allot_left}
-use Rattle.lane_core.proofs.EndSteps.{end_left}
-use Rattle.lane_core.proofs.DrainSteps.{drain_left}
+use Rattle.lane_stages.proofs.AllotSteps.{allot_left}
+use Rattle.lane_stages.proofs.EndSteps.{end_left}
+use Rattle.lane_stages.proofs.DrainSteps.{drain_left}
 use Rattle.lane_core.proofs.ContextGrown.{noted_so}
 
 pub may_end : (pool : SharedPool) (old : Context) (stage : EndStage) → IsContext pool (ending.hand_of stage) old

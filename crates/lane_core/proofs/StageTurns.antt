@@ -16,26 +16,28 @@ use Rattle.shared_pool.specs.declared.pool.SharedPool.{SharedPool}
 use Rattle.shared_pool.specs.Closing.{note_of, entry_of}
 use Rattle.shared_pool.specs.SeatLanes.{lane_of}
 use Rattle.shared_pool.specs.Seats.{IsPoolSeat}
-use Rattle.lane_core.specs.declared.counts.Counted.{Counted}
+use Rattle.lane_stages.specs.declared.counts.Counted.{Counted}
 use Rattle.lane_core.specs.declared.context.Context.{Context}
 use Rattle.lane_core.specs.declared.context.Stage.{Stage}
 use Rattle.lane_core.specs.declared.context.Stage.TheVariants.{Ready, Allotting, Ending, Sweeping, Closing, Crossing, Parting, Consolidating, Copying, Replacing, Growing}
 use Rattle.lane_core.specs.declared.context.Turn.{Turn}
 use Rattle.lane_core.specs.declared.context.Turn.TheVariants.{Went, Pending, Waiting}
-use Rattle.lane_core.specs.declared.draining.Draining.TheVariants.{Ask}
-use Rattle.lane_core.specs.Drainings as draining
-use Rattle.lane_core.specs.Budgets.{Left, Spends, notes_alone, with_sheds}
-use Rattle.lane_core.specs.Counting.{counted}
+use Rattle.lane_stages.specs.declared.draining.Draining.TheVariants.{Ask}
+use Rattle.lane_stages.specs.Drainings as draining
+use Rattle.lane_stages.specs.Budgets.{Left, Spends, notes_alone, with_sheds}
+use Rattle.lane_stages.specs.Counting.{counted}
 use Rattle.seat_work.specs.Hands.{Hand, empty_hand, IsHeld}
 use Rattle.lane_core.specs.Named.{NamesAre}
-use Rattle.lane_core.specs.Sampled.{AreSampled}
+use Rattle.lane_stages.specs.Sampled.{AreSampled}
 use Rattle.seat_work.specs.Growth.{HasMore}
-use Rattle.lane_core.specs.Readings.{ReadsOn, swept}
+use Rattle.seat_work.specs.Readings.{ReadsOn}
+use Rattle.lane_core.specs.Readings.{swept}
 use Rattle.lane_core.specs.Contexts.{IsContext, log_of, reads_from, left_now, ContextGrew, GoesOn, Waits, SpendsAt, HasTurned}
 use Rattle.lane_core.specs.ContextSteps.{HasNoted, HasReplied, Concludes}
 use Rattle.lane_core.proofs.NameLaws.{RebindsAt, rebound_more}
-use Rattle.lane_core.proofs.EntryCounts.{Recounts}
-use Rattle.lane_core.proofs.ReadLaws.{given_on, sweeps_on}
+use Rattle.lane_stages.proofs.EntryCounts.{Recounts}
+use Rattle.seat_work.proofs.ReadLaws.{given_on}
+use Rattle.lane_core.proofs.ReadLaws.{sweeps_on}
 use Rattle.lane_core.proofs.ContextLaws.{Advances, entries_more, reads_at, spends_at}
 use Rattle.lane_core.proofs.ContextGrown.{mid_is, mid_grew, grew, goes_on, answered, swept_reads, lengthened}
 

@@ -16,9 +16,9 @@ use Rattle.pool_law.specs.Readers.{Log}
 use Rattle.pool_law.specs.Refusals.{Refusal as Refuses, first_refusal, refusals, refusal, unbound, taken, composite, illegal, uncounted}
 use Rattle.lane_core.specs.declared.access.Refusal.{Refusal}
 use Rattle.lane_core.specs.declared.access.Refusal.TheVariants.{Unbound, Taken, Composite, Illegal, Range, Plain as NotComposite, TooLarge}
-use Rattle.lane_core.specs.declared.counts.Counted.{Counted}
+use Rattle.lane_stages.specs.declared.counts.Counted.{Counted}
 use Rattle.lane_core.specs.Named.{bound_at}
-use Rattle.lane_core.specs.Counting.{counted}
+use Rattle.lane_stages.specs.Counting.{counted}
 use Rattle.lane_core.specs.Accesses.{reply_for, IsState, IsRefused, IsRefusedFresh, IsRefusedRange, IsUncounted, IsRefusedCount}
 use Rattle.lane_core.specs.Works.{IsPlainAt}
 

@@ -13,19 +13,20 @@ use Rattle.lane_core.specs.declared.context.Stage.{Stage}
 use Rattle.lane_core.specs.declared.context.Stage.TheVariants.{Ready, Closing}
 use Rattle.lane_core.specs.declared.context.Turn.{Turn}
 use Rattle.lane_core.specs.declared.context.Turn.TheVariants.{Went, Pending, Waiting}
-use Rattle.lane_core.specs.declared.draining.DrainKind.TheVariants.{Close}
-use Rattle.lane_core.specs.declared.draining.Draining.{Draining}
-use Rattle.lane_core.specs.declared.draining.Draining.TheVariants.{Ask}
+use Rattle.lane_stages.specs.declared.draining.DrainKind.TheVariants.{Close}
+use Rattle.lane_stages.specs.declared.draining.Draining.{Draining}
+use Rattle.lane_stages.specs.declared.draining.Draining.TheVariants.{Ask}
 use Rattle.lane_core.specs.declared.lane.Lane.{Lane}
-use Rattle.lane_core.specs.declared.lane.Stepped.{Stepped}
-use Rattle.lane_core.specs.declared.lane.Stepped.TheVariants.{Went as StepWent, Pending as StepPending, Waiting as StepWaiting, Finished as StepFinished}
-use Rattle.lane_core.specs.Drainings as draining
+use Rattle.lane_stages.specs.declared.stepped.Stepped.{Stepped}
+use Rattle.lane_stages.specs.declared.stepped.Stepped.TheVariants.{Went as StepWent, Pending as StepPending, Waiting as StepWaiting, Finished as StepFinished}
+use Rattle.lane_stages.specs.Drainings as draining
 use Rattle.seat_work.specs.Hands.{Hand, empty_hand}
-use Rattle.lane_core.specs.Readings.{ReadsOn, none_asked}
+use Rattle.seat_work.specs.Readings.{ReadsOn}
+use Rattle.lane_stages.specs.Readings.{none_asked}
 use Rattle.lane_core.specs.Contexts.{IsContext, hand_of, Fits, HasRoomFor, left_for, left_at, next_of, PassesOver, HasTurnedClosing}
 use Rattle.lane_core.specs.Lanes.{Heeds, IsStoppedLane, reads_closing, SameLane, commands_left, entries_since, number_of}
 use Rattle.lane_core.specs.Steps.{HasStepped, stepped_of}
-use Rattle.lane_core.proofs.ReadLaws.{on_append}
+use Rattle.lane_stages.proofs.ReadLaws.{on_append}
 use Rattle.lane_core.proofs.LaneGrown.{lane_at, same_lane, replied_more, still_since, still_left, closed_room, room_to_begin, front_room}
 use Rattle.lane_core.proofs.CloseTurns.{closing_same, closing_so, closing_next}
 use Rattle.lane_core.proofs.Heeding.{heeds_still}

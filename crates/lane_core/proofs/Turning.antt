@@ -28,26 +28,28 @@ use Rattle.shared_pool.specs.Seats.{IsPoolSeat}
 use Rattle.seat_work.proofs.HandNotes.{ref_carries}
 use Rattle.lane_core.specs.declared.access.Refusal.{Refusal}
 use Rattle.lane_core.specs.declared.access.Refusal.TheVariants.{Unbound, Taken, Composite, Illegal, Range, Plain as NotComposite, TooLarge}
-use Rattle.lane_core.specs.declared.counts.Counted.{Counted}
+use Rattle.lane_stages.specs.declared.counts.Counted.{Counted}
 use Rattle.lane_core.specs.declared.context.Context.{Context}
 use Rattle.lane_core.specs.declared.context.Stage.TheVariants.{Ready}
 use Rattle.lane_core.specs.declared.context.Turn.TheVariants.{Went}
 use Rattle.lane_core.specs.Accesses.{reply_for, IsState}
 use Rattle.seat_work.specs.Hands.{lane_in, empty_hand}
-use Rattle.lane_core.specs.Budgets.{Left, notes_alone, takes}
-use Rattle.lane_core.specs.Counting.{counted}
+use Rattle.lane_stages.specs.Budgets.{Left, notes_alone, takes}
+use Rattle.lane_stages.specs.Counting.{counted}
 use Rattle.lane_core.specs.Named.{bound_at, NamesAre}
-use Rattle.lane_core.specs.Sampled.{AreSampled}
+use Rattle.lane_stages.specs.Sampled.{AreSampled}
 use Rattle.lane_core.specs.Contexts.{IsContext, left_for, HasTurned}
-use Rattle.lane_core.specs.Readings.{before_left, ReadsOn, none_asked}
+use Rattle.seat_work.specs.Readings.{before_left, ReadsOn}
+use Rattle.lane_stages.specs.Readings.{none_asked}
 use Rattle.lane_core.specs.ContextSteps.{HasNoted, HasReplied, HasRetained, MayTurn}
 use Rattle.seat_work.proofs.Grown.{Grows, one_none, grows_ref}
-use Rattle.lane_core.proofs.Grown.{spends}
+use Rattle.lane_stages.proofs.Grown.{spends}
 use Rattle.seat_work.proofs.HandLaws.{held_on}
-use Rattle.lane_core.proofs.EntryCounts.{Recounts, none_recounted, looked, retained}
+use Rattle.lane_stages.proofs.EntryCounts.{Recounts, none_recounted, looked, retained}
 use Rattle.lane_core.proofs.NameLaws.{RebindsAt, rebound_same}
 use Rattle.lane_core.proofs.StateReads.{goes_uncounted, named_so}
-use Rattle.lane_core.proofs.ReadLaws.{given_on, still_on, step_on}
+use Rattle.seat_work.proofs.ReadLaws.{given_on, step_on}
+use Rattle.lane_stages.proofs.ReadLaws.{still_on}
 use Rattle.lane_core.proofs.ContextLaws.{Advances, spends_at}
 use Rattle.lane_core.proofs.ContextGrown.{mid_is, answered, swept_reads}
 

@@ -26,7 +26,7 @@ use Rattle.pool_law.specs.Readers.{ToldNotes, Log, Reader, ◌>>=◌, ◌or◌, 
 use Rattle.pool_law.proofs.CompositeLemmas.{same_bytes-refl}
 use Rattle.pool_law.proofs.PatternLemmas.{same_number, same_object-refl, same_region-refl, same_root-refl}
 use Rattle.size_classes.specs.Sizes.{below}
-use Rattle.lane_core.specs.NextNotes.{CanBeRead}
+use Rattle.lane_stages.specs.NextNotes.{CanBeRead}
 
 -- entries that are read from here on, what they give, and what was noted and asked then
 pub record Taken (A : Type 0) (r : Reader A) (seen : ToldNotes) (asked : ℕ) : Type 0 where

@@ -15,17 +15,17 @@ use Rattle.pool_table.specs.declared.views.SeatView.{SeatView}
 use Rattle.shared_pool.specs.SeatViews.{view_of}
 use Rattle.shared_pool.specs.declared.pool.SharedPool.{SharedPool}
 use Rattle.shared_pool.specs.SeatLanes.{lane_of}
-use Rattle.lane_core.specs.declared.allotment.Allotting.TheVariants.{Handle as AskHandle}
+use Rattle.lane_stages.specs.declared.allotment.Allotting.TheVariants.{Handle as AskHandle}
 use Rattle.lane_core.specs.declared.context.Context.{Context}
 use Rattle.lane_core.specs.declared.context.Stage.{Stage}
 use Rattle.lane_core.specs.declared.context.Stage.TheVariants.{Ready, Allotting, Ending, Sweeping, Closing, Crossing, Parting, Consolidating, Copying, Replacing, Growing}
 use Rattle.lane_core.specs.declared.context.Turn.{Turn}
 use Rattle.lane_core.specs.declared.context.Turn.TheVariants.{Went, Pending, Waiting}
-use Rattle.lane_core.specs.declared.releasing.Releasing.{Releasing}
+use Rattle.lane_stages.specs.declared.releasing.Releasing.{Releasing}
 use Rattle.lane_core.specs.declared.work.Consolidation.{Consolidation}
 use Rattle.lane_core.specs.declared.work.Work.{Work}
 use Rattle.lane_core.specs.declared.work.Work.TheVariants.{End, Bind, Consolidate}
-use Rattle.lane_core.specs.Budgets.{notes_alone, with_sheds}
+use Rattle.lane_stages.specs.Budgets.{notes_alone, with_sheds}
 use Rattle.lane_core.specs.Readings.{swept}
 use Rattle.lane_core.specs.Contexts.{HasRoomFor, IsUnderway, left_for, left_now, reads_from}
 use Rattle.lane_core.specs.ContextSteps.{Concludes, MayGoOn, MayTurn, StageTurns, bound_to}

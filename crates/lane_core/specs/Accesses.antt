@@ -20,9 +20,9 @@ use Rattle.lane_core.specs.declared.access.Owned.TheVariants.{View as OwnView, C
 use Rattle.lane_core.specs.declared.access.Reach.{Reach}
 use Rattle.lane_core.specs.declared.access.Access.{Access}
 use Rattle.lane_core.specs.declared.access.Access.TheVariants.{Refused, Set, Get}
-use Rattle.lane_core.specs.declared.counts.Counted.{Counted}
+use Rattle.lane_stages.specs.declared.counts.Counted.{Counted}
 use Rattle.lane_core.specs.Named.{AreInside, bound_at, NamesAre}
-use Rattle.lane_core.specs.Counting.{counted, CountsAre}
+use Rattle.lane_stages.specs.Counting.{counted, CountsAre}
 
 abbrev pub reply_for : Refusal → Reply
 reply_for Unbound = Reply.Unbound

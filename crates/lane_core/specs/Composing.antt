@@ -10,20 +10,20 @@ use Rattle.pool_law.specs.Lanes.{Answer, answer}
 use Rattle.pool_law.specs.Limits.{geometry_of}
 use Rattle.pool_law.specs.Names.{Bound, Composed, Names, bind, composite_in, lookup}
 use Rattle.lane_core.specs.declared.composed.Marks.{Marks}
-use Rattle.lane_core.specs.declared.copying.Transfer.{Transfer}
-use Rattle.lane_core.specs.declared.counts.Counted.{Counted}
-use Rattle.lane_core.specs.declared.crossing.Crossing.{Crossing}
-use Rattle.lane_core.specs.declared.crossing.Crossing.TheVariants.{Set, Get}
-use Rattle.lane_core.specs.declared.crossing.Stretch.{Stretch}
-use Rattle.lane_core.specs.declared.copying.Copying.TheVariants.{Get as CopyGet}
+use Rattle.lane_stages.specs.declared.copying.Transfer.{Transfer}
+use Rattle.lane_stages.specs.declared.counts.Counted.{Counted}
+use Rattle.lane_stages.specs.declared.crossing.Crossing.{Crossing}
+use Rattle.lane_stages.specs.declared.crossing.Crossing.TheVariants.{Set, Get}
+use Rattle.lane_stages.specs.declared.crossing.Stretch.{Stretch}
+use Rattle.lane_stages.specs.declared.copying.Copying.TheVariants.{Get as CopyGet}
 use Rattle.lane_core.specs.declared.context.Context.{Context}
 use Rattle.lane_core.specs.declared.context.Stage.{Stage}
 use Rattle.lane_core.specs.declared.context.Stage.TheVariants.{Copying, Replacing}
 use Rattle.lane_core.specs.declared.work.Consolidation.{Consolidation}
-use Rattle.lane_core.specs.Counting.{counted}
-use Rattle.lane_core.specs.Crossings.{HasRoom, stretches}
+use Rattle.lane_stages.specs.Counting.{counted}
+use Rattle.lane_stages.specs.Crossings.{HasRoom, stretches}
 use Rattle.lane_core.specs.Named.{IsInRoot, IsMarked, bound_at, known_to}
-use Rattle.lane_core.specs.Releasings.{AreUncounted}
+use Rattle.lane_stages.specs.Releasings.{AreUncounted}
 
 -- ---- Names, where one composite is another.
 

@@ -21,8 +21,8 @@ use Rattle.shared_pool.specs.SeatLanes.{lane_of}
 use Rattle.shared_pool.specs.MailAnswers.{IsPosted}
 use Rattle.shared_pool.specs.Seats.{IsPoolSeat}
 use Rattle.lane_core.specs.declared.access.Access.{Access}
-use Rattle.lane_core.specs.declared.counts.Counted.{Counted}
-use Rattle.lane_core.specs.declared.draining.Draining.TheVariants.{Ask}
+use Rattle.lane_stages.specs.declared.counts.Counted.{Counted}
+use Rattle.lane_stages.specs.declared.draining.Draining.TheVariants.{Ask}
 use Rattle.lane_core.specs.declared.context.Context.{Context}
 use Rattle.lane_core.specs.declared.composed.Marks.{Marks}
 use Rattle.lane_core.specs.declared.context.Stage.{Stage}
@@ -30,9 +30,9 @@ use Rattle.lane_core.specs.declared.context.Stage.TheVariants.{Ready, Sweeping}
 use Rattle.lane_core.specs.declared.context.Turn.{Turn}
 use Rattle.lane_core.specs.declared.context.Turn.TheVariants.{Went, Pending}
 use Rattle.lane_core.specs.Accesses.{IsState, IsPrepared}
-use Rattle.lane_core.specs.Budgets.{Left}
+use Rattle.lane_stages.specs.Budgets.{Left}
 use Rattle.seat_work.specs.Changes.{one_for}
-use Rattle.lane_core.specs.Counting.{counted}
+use Rattle.lane_stages.specs.Counting.{counted}
 use Rattle.seat_work.specs.Hands.{empty_hand}
 use Rattle.lane_core.specs.Composing.{set_marks}
 use Rattle.lane_core.specs.Contexts.{IsContext, Fits, HasRoomFor, HasTurned, NameFits, hand_of, left_at}

@@ -31,24 +31,26 @@ use Rattle.lane_core.specs.declared.context.Stage.{Stage}
 use Rattle.lane_core.specs.declared.context.Stage.TheVariants.{Ready, Allotting, Ending, Sweeping, Closing, Crossing, Parting, Consolidating, Copying, Replacing, Growing}
 use Rattle.lane_core.specs.declared.context.Turn.{Turn}
 use Rattle.lane_core.specs.declared.context.Turn.TheVariants.{Went, Pending, Waiting}
-use Rattle.lane_core.specs.declared.draining.DrainKind.TheVariants.{Trim, Close}
-use Rattle.lane_core.specs.declared.draining.Draining.{Draining}
-use Rattle.lane_core.specs.declared.draining.Draining.TheVariants.{Done as AllDrained}
+use Rattle.lane_stages.specs.declared.draining.DrainKind.TheVariants.{Trim, Close}
+use Rattle.lane_stages.specs.declared.draining.Draining.{Draining}
+use Rattle.lane_stages.specs.declared.draining.Draining.TheVariants.{Done as AllDrained}
 use Rattle.seat_work.specs.Hands.{Hand, empty_hand, IsHeld}
-use Rattle.lane_core.specs.Sampled.{AreSampled}
-use Rattle.lane_core.specs.Budgets.{Left, most_of_lane, notes_alone, with_sheds, Spends}
+use Rattle.lane_stages.specs.Sampled.{AreSampled}
+use Rattle.lane_stages.specs.Budgets.{Left, most_of_lane, notes_alone, with_sheds, Spends}
 use Rattle.seat_work.specs.Growth.{HasMore}
-use Rattle.lane_core.specs.Counting.{CountsAre}
+use Rattle.lane_stages.specs.Counting.{CountsAre}
 use Rattle.lane_core.specs.Named.{AreComposites, AreInside, NamesAre, bound_at, known_to}
-use Rattle.lane_core.specs.NextNotes.{BeginsAt, CanBeRead}
-use Rattle.lane_core.specs.Readings.{ReadsOn, none_asked, swept, renamed}
-use Rattle.lane_core.specs.Allotments as allotment
-use Rattle.lane_core.specs.Endings as ending
-use Rattle.lane_core.specs.Drainings as draining
-use Rattle.lane_core.specs.Crossings as crossing
-use Rattle.lane_core.specs.Copyings as copying
-use Rattle.lane_core.specs.Releasings as releasing
-use Rattle.lane_core.specs.Growings as growing
+use Rattle.lane_stages.specs.NextNotes.{BeginsAt, CanBeRead}
+use Rattle.seat_work.specs.Readings.{ReadsOn}
+use Rattle.lane_stages.specs.Readings.{none_asked}
+use Rattle.lane_core.specs.Readings.{swept, renamed}
+use Rattle.lane_stages.specs.Allotments as allotment
+use Rattle.lane_stages.specs.Endings as ending
+use Rattle.lane_stages.specs.Drainings as draining
+use Rattle.lane_stages.specs.Crossings as crossing
+use Rattle.lane_stages.specs.Copyings as copying
+use Rattle.lane_stages.specs.Releasings as releasing
+use Rattle.lane_stages.specs.Growings as growing
 use Rattle.lane_core.specs.Composing.{HasLast, IsBindable, IsCandidate, IsConsolidation, MarksFit, crossed, ended}
 
 -- what the seat noted, and as the law reads it

@@ -17,7 +17,7 @@ use Rattle.shared_pool.specs.Seats.{IsPoolSeat}
 use Rattle.shared_pool.specs.Wearing.{IsShort}
 use Rattle.lane_core.specs.declared.lane.Parts.{Parts}
 use Rattle.lane_core.specs.Named.{ChangesBelow}
-use Rattle.lane_core.specs.Counting.{counted}
+use Rattle.lane_stages.specs.Counting.{counted}
 use Rattle.lane_core.specs.Lanes.{left_for_all}
 
 -- the seat of a new lane of the pool, for these commands: it has noted nothing, has turns and

@@ -9,17 +9,17 @@ use Rattle.pool_law.specs.LaneStates.{LaneState}
 use Rattle.lane_core.specs.declared.access.Refusal.{Refusal}
 use Rattle.lane_core.specs.declared.access.Refusal.TheVariants.{Illegal, Range}
 use Rattle.lane_core.specs.declared.composed.Marks.{Marks}
-use Rattle.lane_core.specs.declared.counts.Counted.{Counted}
-use Rattle.lane_core.specs.declared.crossing.Crossing.{Crossing}
-use Rattle.lane_core.specs.declared.crossing.Crossing.TheVariants.{Set, Get}
-use Rattle.lane_core.specs.declared.crossing.Stretch.{Stretch}
+use Rattle.lane_stages.specs.declared.counts.Counted.{Counted}
+use Rattle.lane_stages.specs.declared.crossing.Crossing.{Crossing}
+use Rattle.lane_stages.specs.declared.crossing.Crossing.TheVariants.{Set, Get}
+use Rattle.lane_stages.specs.declared.crossing.Stretch.{Stretch}
 use Rattle.lane_core.specs.declared.context.Context.{Context}
 use Rattle.lane_core.specs.declared.work.Work.{Work}
 use Rattle.lane_core.specs.declared.work.Work.TheVariants.{Cross, Empty}
 use Rattle.lane_core.specs.Accesses.{IsState}
 use Rattle.lane_core.specs.Composing.{AreReachable}
-use Rattle.lane_core.specs.Counting.{counted}
-use Rattle.lane_core.specs.Crossings.{bytes_of, parts_of, stretches}
+use Rattle.lane_stages.specs.Counting.{counted}
+use Rattle.lane_stages.specs.Crossings.{bytes_of, parts_of, stretches}
 use Rattle.lane_core.specs.Named.{IsInRoot}
 use Rattle.lane_core.specs.Works.{IsPlanned, IsReady, IsUnplanned}
 

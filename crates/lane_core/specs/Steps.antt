@@ -15,9 +15,9 @@ use Rattle.lane_core.specs.declared.lane.Lane.{Lane}
 use Rattle.lane_core.specs.declared.context.Stage.{Stage}
 use Rattle.lane_core.specs.declared.context.Turn.{Turn}
 use Rattle.lane_core.specs.declared.context.Turn.TheVariants.{Went as TurnWent, Pending as TurnPending, Waiting as TurnWaiting}
-use Rattle.lane_core.specs.declared.lane.Stepped.{Stepped}
-use Rattle.lane_core.specs.declared.lane.Stepped.TheVariants.{Went, Pending, Waiting, Finished}
-use Rattle.lane_core.specs.NextNotes.{StandsFirst}
+use Rattle.lane_stages.specs.declared.stepped.Stepped.{Stepped}
+use Rattle.lane_stages.specs.declared.stepped.Stepped.TheVariants.{Went, Pending, Waiting, Finished}
+use Rattle.lane_stages.specs.NextNotes.{StandsFirst}
 use Rattle.lane_core.specs.Contexts.{ReceivesFrom}
 use Rattle.lane_core.specs.Lanes.{IsFinished, SameLog, LogGrew, answered_entries, commands_left, commands_of, entries_since, number_of, replies_of}
 

@@ -16,10 +16,10 @@ use Rattle.lane_core.specs.declared.context.Turn.{Turn}
 use Rattle.lane_core.specs.declared.work.Work.{Work}
 use Rattle.lane_core.specs.declared.work.Work.TheVariants.{Refused, Empty, Cross, End, Bind, Consolidate}
 use Rattle.lane_core.specs.Accesses.{IsState, reply_for}
-use Rattle.lane_core.specs.Allotments.{left_with}
-use Rattle.lane_core.specs.Budgets.{Left, notes_alone}
+use Rattle.lane_stages.specs.Allotments.{left_with}
+use Rattle.lane_stages.specs.Budgets.{Left, notes_alone}
 use Rattle.lane_core.specs.Composing.{AreReachable, HasLast, IsBindable, IsCandidate, IsConsolidation, MarksFit, crossed, ended, marked}
-use Rattle.lane_core.specs.Crossings as crossing
+use Rattle.lane_stages.specs.Crossings as crossing
 use Rattle.lane_core.specs.Contexts.{HasTurned, left_for}
 use Rattle.lane_core.specs.Named.{bound_at, known_to}
 

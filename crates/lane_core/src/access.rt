@@ -7,13 +7,13 @@ ghost use Rattle.pool_law.specs.Views.{in_range, can_read, can_write, after_read
 ghost use Rattle.pool_law.specs.Names.{Plain};
 ghost use Rattle.lane_core.specs.Named.{bound_at};
 ghost use Rattle.lane_core.specs.Works.{IsUnplanned};
-ghost use Rattle.lane_core.specs.Counting.{counted};
+ghost use Rattle.lane_stages.specs.Counting.{counted};
 ghost use Rattle.lane_core.specs.Accesses.{IsState, IsRefused, IsRefusedFresh, IsRefusedRange, IsRefusedCount, IsOwned, IsReached, IsPrepared, IsAccess, BindsBelow, IsMadeSet, IsMadeGet};
 
 use crate::bound::Bound;
-use crate::counts::OwnCounts;
 use crate::names::Names;
 use byte_view::View;
+use lane_stages::OwnCounts;
 use pool_law::{Command, RootId, ViewData};
 use std::alloc::{AllocError, Global};
 

@@ -12,13 +12,13 @@ ghost use Rattle.lane_core.specs.declared.context.Turn.{Turn};
 ghost use Rattle.shared_pool.specs.declared.pool.SharedPool.{SharedPool};
 ghost use Rattle.lane_core.specs.Contexts.{IsContext, HasRoomFor, left_for, AccessFits, HasTurned};
 ghost use Rattle.lane_core.specs.declared.context.Stage.{Stage};
-ghost use Rattle.lane_core.specs.Budgets.{notes_alone};
+ghost use Rattle.lane_stages.specs.Budgets.{notes_alone};
 ghost use Rattle.lane_core.specs.Named.{known_to};
 
 use crate::access::{Access, Reach, Refusal, derived};
 use crate::bound::Bound;
 use crate::context::{Context, Stage, Turn, waits};
-use crate::notes::{at, write};
+use lane_stages::{at, write};
 use pool_law::{Bytes, Command, Did, Held, Note, Object, Reply};
 use shared_pool::{SharedPool, Went};
 

@@ -5,16 +5,15 @@ ghost use Rattle.pool_law.specs.LaneStates.{LaneState};
 ghost use Rattle.pool_law.specs.declared.command.Command.{Command};
 ghost use Rattle.lane_core.specs.ContextSteps.{MayTurn, Turns};
 ghost use Rattle.lane_core.specs.Named.{NamesAre};
-ghost use Rattle.lane_core.specs.Allotments as allotment;
+ghost use Rattle.lane_stages.specs.Allotments as allotment;
 ghost use Rattle.lane_core.specs.Contexts.{IsContext, Fits, HasRoomFor, left_for, HasTurned};
 ghost use Rattle.lane_core.specs.declared.context.Stage.{Stage};
 
 use crate::access::Refusal;
-use crate::allotment::{Allotted, Allotting, allot};
 use crate::bound::Bound;
 use crate::context::{Context, Stage, Turn};
-use crate::stage_step::StageStep;
 use byte_view::View;
+use lane_stages::{Allotted, Allotting, StageStep, allot};
 use pool_law::Reply;
 use shared_pool::SharedPool;
 

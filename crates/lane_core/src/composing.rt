@@ -18,12 +18,12 @@ use crate::access::Refusal;
 use crate::bound::Bound;
 use crate::composed::{Composed, Marks};
 use crate::context::Context;
-use crate::copying::Transfer;
 use crate::names::Names;
 use crate::refusing::{refusal_to_add, refusal_to_compose};
 use crate::work::{Consolidation, Work};
 use byte_view::View;
 use composite_buf::{Composite, PartList};
+use lane_stages::Transfer;
 use pool_law::Part;
 use std::alloc::{AllocError, Global};
 

@@ -14,19 +14,13 @@ ghost use Rattle.lane_core.specs.Works.{IsUnplanned};
 ghost use Rattle.lane_core.specs.declared.context.Stage.{Stage};
 
 use crate::access::Refusal;
-use crate::allotment::Allotting;
 use crate::composed::{Composed, Marks};
-use crate::copying::Copying;
-use crate::counts::OwnCounts;
-use crate::crossing::Crossing;
-use crate::draining::Draining;
-use crate::growing::Growing;
 use crate::names::Names;
-use crate::notes::write;
-use crate::releasing::Releasing;
-use crate::retirement::Ending;
 use crate::work::Consolidation;
 use byte_view::View;
+use lane_stages::{
+    Allotting, Copying, Crossing, Draining, Ending, Growing, OwnCounts, Releasing, write,
+};
 use leak_records::Sampler;
 use pool_law::{Answered, Command, Held, Note, Part, Reply, Shape};
 use shared_pool::{PoolSeat, SharedPool};

@@ -6,23 +6,21 @@ ghost use Rattle.pool_law.specs.LaneStates.{LaneState};
 ghost use Rattle.pool_law.specs.Names.{Composed as Whole};
 ghost use Rattle.pool_law.specs.declared.command.Command.{Command};
 ghost use Rattle.seat_work.specs.Hands.{empty_hand};
-ghost use Rattle.lane_core.specs.Allotments.{left_with};
-ghost use Rattle.lane_core.specs.Counting.{counted};
+ghost use Rattle.lane_stages.specs.Allotments.{left_with};
+ghost use Rattle.lane_stages.specs.Counting.{counted};
 ghost use Rattle.lane_core.specs.ContextSteps.{CanAnswer, recounted, HasReplied, HasRetained, MayTurn, Turns};
 ghost use Rattle.lane_core.specs.declared.context.Turn.{Turn};
 ghost use Rattle.shared_pool.specs.declared.pool.SharedPool.{SharedPool};
 ghost use Rattle.lane_core.specs.Named.{bound_at, NamesAre};
-ghost use Rattle.lane_core.specs.Endings as ending;
+ghost use Rattle.lane_stages.specs.Endings as ending;
 ghost use Rattle.lane_core.specs.Contexts.{IsContext, hand_of, Fits, HasRoomFor, left_for, HasTurned};
 ghost use Rattle.lane_core.specs.Composing.{HasLast};
 ghost use Rattle.lane_core.specs.declared.context.Stage.{Stage};
 
 use crate::access::{Owned, Refusal, counted, own_count};
 use crate::context::{Context, Stage, Turn, waits};
-use crate::notes::{at, to};
-use crate::retirement::{Ending, end};
-use crate::stage_step::StageStep;
 use byte_view::View;
+use lane_stages::{Ending, StageStep, at, end, to};
 use pool_law::{Command, Did, Held, Object, RefDid, Reply, RootId};
 use shared_pool::{Release, SharedPool, Went};
 

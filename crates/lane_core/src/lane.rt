@@ -11,30 +11,16 @@ ghost use Rattle.lane_core.specs.Opened.{IsFirstSeat, AreFirst, AreParts};
 mod stepping;
 
 use crate::context::{Context, Stage};
-use crate::counts::OwnCounts;
-use crate::draining::Draining;
 use crate::names::Names;
-use crate::notes::lane_of;
 use crate::room::{makes_composites, name_count, note_bound};
 use crate::spare::Spare;
 use crate::spending::spend;
+use lane_stages::{Draining, OwnCounts, lane_of};
 use leak_records::Sampler;
-use pool_law::{Answered, CommandList, Held, LaneLog, Note, NoteList, ReplyList, Shape};
+use pool_law::{Answered, CommandList, LaneLog, Note, NoteList, ReplyList, Shape};
 use shared_pool::PoolSeat;
 use size_classes::SizeClasses;
 use std::alloc::{AllocError, Global};
-
-/// What a step did.
-pub enum Stepped {
-    /// A reply was added, or what one section and one step on a count note, or both.
-    Went,
-    /// Another seat was at the object where the lane's next note stands; it waits.
-    Pending(Held),
-    /// No parcel from that lane is there.
-    Waiting { from: u32 },
-    /// All was done before: each command was answered, and all caches were closed and shed.
-    Finished,
-}
 
 /// A lane with its commands and its log. It must be spent.
 pub struct Lane {

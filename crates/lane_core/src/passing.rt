@@ -6,7 +6,7 @@ ghost use Rattle.seat_work.specs.Hands.{empty_hand};
 ghost use Rattle.pool_law.specs.Views.{IsView};
 ghost use Rattle.shared_pool.specs.Knowing.{ReachesKnown};
 ghost use Rattle.shared_pool.specs.SeatViews.{view_of};
-ghost use Rattle.lane_core.specs.Counting.{counted};
+ghost use Rattle.lane_stages.specs.Counting.{counted};
 ghost use Rattle.lane_core.specs.ContextSteps.{HasPosted, left_to_post, MayTurn, Turns};
 ghost use Rattle.lane_core.specs.declared.context.Turn.{Turn};
 ghost use Rattle.shared_pool.specs.declared.pool.SharedPool.{SharedPool};
@@ -15,8 +15,8 @@ ghost use Rattle.lane_core.specs.Contexts.{IsContext, FitsContext, HasRoomFor, l
 use crate::access::counted;
 use crate::bound::Bound;
 use crate::context::{Context, Turn};
-use crate::notes::{at, lane_of, to};
 use byte_view::View;
+use lane_stages::{at, lane_of, to};
 use pool_law::{Command, Did, Object, Parcel, Reply};
 use shared_pool::{Fetched, SharedPool};
 use std::sync::Wait;

@@ -17,9 +17,8 @@ use crate::access::Refusal;
 use crate::composed::{Composed, Marks};
 use crate::composing::{add, compose};
 use crate::context::Context;
-use crate::counts::OwnCounts;
-use crate::crossing::{Crossing, Stretch, next_of};
 use crate::work::Work;
+use lane_stages::{Crossing, OwnCounts, Stretch, next_of};
 use pool_law::{Bytes, Command, Part, Reply};
 use std::alloc::{AllocError, Global};
 

@@ -8,9 +8,9 @@ ghost use Rattle.lane_core.specs.Compositions.{is_composite, is_illegal, is_plai
 
 use crate::access::Refusal;
 use crate::bound::Bound;
-use crate::counts::OwnCounts;
 use crate::names::Names;
 use crate::planning::is_usable;
+use lane_stages::OwnCounts;
 
 /// Why no composite is made of these names, if none is.
 pub(crate) fn refusal_to_compose(

@@ -6,16 +6,15 @@ ghost use Rattle.pool_law.specs.declared.command.Command.{Command};
 ghost use Rattle.shared_pool.specs.declared.pool.SharedPool.{SharedPool};
 ghost use Rattle.lane_core.specs.ContextSteps.{MayGoOn, MayTurn, StageTurns, Turns};
 ghost use Rattle.lane_core.specs.Contexts.{left_for};
-ghost use Rattle.lane_core.specs.Growings as growing;
+ghost use Rattle.lane_stages.specs.Growings as growing;
 ghost use Rattle.lane_core.specs.declared.context.Stage.{Stage};
 ghost use Rattle.lane_core.specs.declared.context.Turn.{Turn};
 
 use crate::access::{Refusal, counted};
 use crate::bound::Bound;
 use crate::context::{Context, Stage, Turn};
-use crate::growing::{Growing, Regrown, grow};
-use crate::stage_step::StageStep;
 use byte_view::View;
+use lane_stages::{Growing, Regrown, StageStep, grow};
 use pool_law::{Command, Reply};
 use shared_pool::SharedPool;
 

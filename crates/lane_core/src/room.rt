@@ -3,7 +3,7 @@
 ghost use Rattle.std.specs.Prelude.{◌≡◌, ◌≤◌, if◌then◌else◌, All, length};
 ghost use Rattle.std.specs.List.{list_any};
 ghost use Rattle.pool_law.specs.Bounds.{composes, may_ask, most_notes, note_bound};
-ghost use Rattle.lane_core.specs.Budgets.{most_of_lane};
+ghost use Rattle.lane_stages.specs.Budgets.{most_of_lane};
 ghost use Rattle.lane_core.specs.Named.{ChangesBelow};
 
 use crate::context::SWEEP_PERIOD;

@@ -1,14 +1,10 @@
 //! What a lane leaves behind where it is abandoned, all of it let go by its parts.
 
-ghost use Rattle.lane_core.specs.declared.draining.Draining.{Draining};
+ghost use Rattle.lane_stages.specs.declared.draining.Draining.{Draining};
 ghost use Rattle.lane_core.specs.declared.context.Stage.{Stage};
 
-use crate::allotment::Allotting;
 use crate::context::Stage;
-use crate::draining::Draining;
-use crate::growing::Growing;
-use crate::releasing::Releasing;
-use crate::retirement::Ending;
+use lane_stages::{Allotting, Draining, Ending, Growing, Releasing};
 use pool_law::Region;
 
 // Spends what a stage has in hand. A region's memory stays taken until the program ends.

@@ -4,14 +4,14 @@ ghost use Rattle.std.specs.Prelude.{◌≢◌, ◌<◌, length, vec_capacity};
 ghost use Rattle.pool_law.specs.LaneStates.{LaneState};
 ghost use Rattle.pool_law.specs.declared.command.Command.{Command};
 ghost use Rattle.lane_core.specs.Named.{NamesAre};
-ghost use Rattle.lane_core.specs.Drainings as draining;
+ghost use Rattle.lane_stages.specs.Drainings as draining;
 ghost use Rattle.lane_core.specs.Contexts.{IsContext, hand_of, Fits, HasRoomFor, left_draining, HasTurned, HasTurnedClosing};
 ghost use Rattle.lane_core.specs.declared.context.Stage.{Stage};
-ghost use Rattle.lane_core.specs.declared.draining.DrainKind.TheVariants.{Close};
-ghost use Rattle.lane_core.specs.declared.draining.Draining.{Draining};
+ghost use Rattle.lane_stages.specs.declared.draining.DrainKind.TheVariants.{Close};
+ghost use Rattle.lane_stages.specs.declared.draining.Draining.{Draining};
 
 use crate::context::{Context, Stage, Turn};
-use crate::draining::{DrainKind, Draining, Drains, drain};
+use lane_stages::{DrainKind, Draining, Drains, drain};
 use pool_law::Reply;
 use shared_pool::SharedPool;
 

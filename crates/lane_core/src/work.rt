@@ -2,8 +2,7 @@
 
 use crate::access::Refusal;
 use crate::composed::{Composed, Marks};
-use crate::copying::Transfer;
-use crate::crossing::Crossing;
+use lane_stages::{Crossing, Transfer};
 use pool_law::{Part, Reply};
 
 /// What is to be done, with all memory for it; or why it is refused.

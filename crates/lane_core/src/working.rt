@@ -10,15 +10,14 @@ ghost use Rattle.lane_core.specs.Works.{IsReady, WorkTurns, left_of};
 ghost use Rattle.lane_core.specs.declared.context.Stage.{Stage};
 
 use crate::allocating::asked_with;
-use crate::allotment::{Allotted, Allotting, allot};
 use crate::bound::Bound;
 use crate::composed::{Composed, Marks};
 use crate::context::{Context, Stage, Turn};
-use crate::copying::{Copying, copy};
-use crate::crossing::{Crossed, Crossing, cross, next_of};
-use crate::releasing::{Releasing, release, unfinished};
-use crate::stage_step::StageStep;
 use crate::work::{Consolidation, Work};
+use lane_stages::{
+    Allotted, Allotting, Copying, Crossed, Crossing, Releasing, StageStep, allot, copy, cross,
+    next_of, release, unfinished,
+};
 use pool_law::{Bytes, Part, Reply, RootId};
 use shared_pool::SharedPool;
 

@@ -32,10 +32,10 @@ use Rattle.seat_work.specs.Readings.{before_left, ReadsOn}
 use Rattle.seat_work.specs.Regrowths.{as_grown}
 use Rattle.seat_work.proofs.ReadLaws.{access_off, access_on, first_on, given_on, none_asked, none_then, second_on}
 
-at_least : (a b : ℕ) → a ≤ b → nat_le a b ≡ true
+pub at_least : (a b : ℕ) → a ≤ b → nat_le a b ≡ true
 at_least a b le = grind (arith, nat_tests)
 
-too_few : (a b : ℕ) → b < a → nat_le a b ≡ false
+pub too_few : (a b : ℕ) → b < a → nat_le a b ≡ false
 too_few a b lt = grind (arith, nat_tests)
 
 -- ---- What the root answers.

@@ -15,6 +15,7 @@ pub mod Regrowing
 pub mod Worn
 pub mod FirstSeats
 pub mod NotedCounts
+pub mod CountedPlaces
 pub mod MailRooms
 pub mod Trials
 pub mod ReadLaws

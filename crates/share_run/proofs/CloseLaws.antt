@@ -12,8 +12,8 @@ use Rattle.shared_pool.specs.declared.seat.PoolSeat.{PoolSeat}
 use Rattle.shared_pool.specs.Seated.{AreDone}
 use Rattle.shared_pool.specs.Seats.{IsPoolSeat}
 use Rattle.shared_pool.specs.SeatViews.{view_of}
-use Rattle.lane_core.specs.declared.lane.Stepped.{Stepped}
-use Rattle.lane_core.specs.declared.lane.Stepped.TheVariants.{Went, Pending, Waiting, Finished}
+use Rattle.lane_stages.specs.declared.stepped.Stepped.{Stepped}
+use Rattle.lane_stages.specs.declared.stepped.Stepped.TheVariants.{Went, Pending, Waiting, Finished}
 use Rattle.board_table.specs.declared.views.BoardView.{BoardView}
 use Rattle.board_table.specs.Seats as table
 use Rattle.board_table.specs.Views.{ended, spent, stake_of, took}

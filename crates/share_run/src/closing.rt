@@ -7,7 +7,7 @@ ghost use Rattle.share_run.specs.declared.openings.TheConstants.{BOARD_TURNS};
 ghost use Rattle.share_run.specs.Standing.{AreSpent, IsBoardOf, IsChief, IsCoreOf, IsEnding, spent_by};
 
 use board_table::Let;
-use lane_core::Stepped;
+use lane_stages::Stepped;
 use pool_law::Bytes;
 use share_text::Parts;
 use shared_composite::{Board, BoardSeat, Core};

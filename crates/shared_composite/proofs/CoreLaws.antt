@@ -8,8 +8,8 @@ use Rattle.pool_table.specs.declared.views.Entry.{Entry}
 use Rattle.shared_pool.specs.declared.pool.SharedPool.{SharedPool}
 use Rattle.shared_pool.specs.declared.seat.PoolSeat.{PoolSeat}
 use Rattle.shared_pool.specs.SeatViews.{view_of}
-use Rattle.lane_core.specs.declared.retirement.Ending.{Ending}
-use Rattle.lane_core.specs.Releasings.{hand_in}
+use Rattle.lane_stages.specs.declared.retirement.Ending.{Ending}
+use Rattle.lane_stages.specs.Releasings.{hand_in}
 use Rattle.shared_composite.specs.declared.cores.Core.{Core}
 use Rattle.shared_composite.specs.Cores.{IsFit, IsBegun, IsCore, IsUnderway, IsOver, IsEmptied, IsKept, CountsJust, IsGetOf, roots_of, left_of}
 use Rattle.shared_composite.specs.Endings.{HasOnly, Holds, turns_in}

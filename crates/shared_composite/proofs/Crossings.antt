@@ -23,7 +23,7 @@ use Rattle.shared_pool.specs.contracts.mail_ends.MailEnds as MailEnds
 use Rattle.shared_pool.specs.contracts.seat.PoolSeat as PoolSeat
 use Rattle.shared_pool.proofs.home.Home.TheSendSync.{the_send as object_send}
 use Rattle.shared_pool.proofs.posted.Posted.TheSendSync.{the_send as posted_send}
-use Rattle.lane_core.proofs.retirement.Ending.TheSendSync.{the_sync as ending_sync}
+use Rattle.lane_stages.proofs.retirement.Ending.TheSendSync.{the_sync as ending_sync}
 use Rattle.shared_composite.specs.contracts.cores.Core as Core
 use Rattle.shared_composite.specs.contracts.home.Home as Home
 use Rattle.shared_composite.specs.contracts.board.Board as Board

@@ -34,14 +34,15 @@ use Rattle.seat_work.proofs.Counting.{Tells, changes_by}
 use Rattle.seat_work.proofs.Grown.{Grows, note_at, grows_noted, grows_busy, grows_with}
 use Rattle.seat_work.proofs.HandLaws.{Carries, held_on}
 use Rattle.seat_work.proofs.HandNotes.{handle_goes, region_given, region_kept, region_back, marked_busy, both_come, weightless}
-use Rattle.lane_core.specs.declared.retirement.Ending.{Ending}
-use Rattle.lane_core.specs.declared.retirement.Ending.TheVariants.{Root as EndRoot, Cache as AskCache, Arena as AskArena, Home}
-use Rattle.lane_core.specs.declared.stage_step.StageStep.TheVariants.{More, Held as HeldBack, Done}
-use Rattle.lane_core.specs.Endings.{goes_home}
-use Rattle.lane_core.specs.Readings.{ReadsOn, behind, none_asked}
-use Rattle.lane_core.specs.Releasings.{hand_in, rest_in}
-use Rattle.lane_core.proofs.Readings.{read_end, read_gone}
-use Rattle.lane_core.proofs.RegionReads.{put_uncached, kept_on, back_on, away_busy_on, given_behind}
+use Rattle.lane_stages.specs.declared.retirement.Ending.{Ending}
+use Rattle.lane_stages.specs.declared.retirement.Ending.TheVariants.{Root as EndRoot, Cache as AskCache, Arena as AskArena, Home}
+use Rattle.lane_stages.specs.declared.stage_step.StageStep.TheVariants.{More, Held as HeldBack, Done}
+use Rattle.lane_stages.specs.Endings.{goes_home}
+use Rattle.seat_work.specs.Readings.{ReadsOn, behind}
+use Rattle.lane_stages.specs.Readings.{none_asked}
+use Rattle.lane_stages.specs.Releasings.{hand_in, rest_in}
+use Rattle.lane_stages.proofs.Readings.{read_end, read_gone}
+use Rattle.lane_stages.proofs.RegionReads.{put_uncached, kept_on, back_on, away_busy_on, given_behind}
 use Rattle.shared_composite.specs.Endings.{MayEnd, HasEnded, Ended, Holds, turns_in}
 use Rattle.shared_composite.proofs.HandsOnly.{only_on, handle_on, region_on, held_token}
 

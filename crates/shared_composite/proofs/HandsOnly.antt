@@ -25,9 +25,9 @@ use Rattle.shared_pool.specs.SeatViews.{view_of}
 use Rattle.seat_work.specs.Hands.{Hand, lane_in, empty_hand, is_place, is_token}
 use Rattle.seat_work.proofs.Grown.{Grows, weigh_more}
 use Rattle.seat_work.proofs.HandLaws.{Carries}
-use Rattle.lane_core.specs.declared.retirement.Ending.{Ending}
-use Rattle.lane_core.specs.declared.retirement.Ending.TheVariants.{Root, Cache, Arena, Home}
-use Rattle.lane_core.specs.Releasings.{hand_in}
+use Rattle.lane_stages.specs.declared.retirement.Ending.{Ending}
+use Rattle.lane_stages.specs.declared.retirement.Ending.TheVariants.{Root, Cache, Arena, Home}
+use Rattle.lane_stages.specs.Releasings.{hand_in}
 use Rattle.shared_composite.specs.Endings.{HasOnly, Holds}
 
 -- ---- Nothing in hand.

@@ -12,9 +12,11 @@ use Rattle.pool_law.specs.Patterns.{end_of, release}
 use Rattle.pool_law.specs.Readers.{Log, Reader, ◌>>◌, give, step}
 use Rattle.pool_table.specs.declared.views.Entry.TheVariants.{Ref}
 use Rattle.shared_pool.specs.Closing.{entry_of}
-use Rattle.lane_core.specs.Endings.{retired}
-use Rattle.lane_core.specs.Readings.{before_left, behind, ReadsOn, none_asked}
-use Rattle.lane_core.proofs.ReadLaws.{then_on, given_on, first_on, second_on, none_then, step_on, step_off}
+use Rattle.lane_stages.specs.Endings.{retired}
+use Rattle.seat_work.specs.Readings.{before_left, behind, ReadsOn}
+use Rattle.lane_stages.specs.Readings.{none_asked}
+use Rattle.seat_work.proofs.ReadLaws.{then_on, given_on, first_on, second_on, none_then, step_on}
+use Rattle.lane_stages.proofs.ReadLaws.{step_off}
 use Rattle.shared_composite.specs.Cores.{releases}
 
 -- what follows a reading whose answer isn't used

@@ -28,15 +28,16 @@ use Rattle.seat_work.proofs.Grown.{Grows, grows_ref}
 use Rattle.seat_work.proofs.HandLaws.{Carries, held_on}
 use Rattle.seat_work.proofs.HandNotes.{ref_carries, ended_carries, weightless}
 use Rattle.seat_work.proofs.Knowing.{knows_more, knows_same}
-use Rattle.lane_core.specs.declared.retirement.Ending.{Ending}
-use Rattle.lane_core.specs.declared.retirement.Ending.TheVariants.{Root, Cache, Arena, Home}
-use Rattle.lane_core.specs.declared.stage_step.StageStep.TheVariants.{Held as HeldBack}
-use Rattle.lane_core.specs.declared.lane.Stepped.{Stepped}
-use Rattle.lane_core.specs.declared.lane.Stepped.TheVariants.{Went, Pending, Finished}
-use Rattle.lane_core.specs.Endings.{retired}
-use Rattle.lane_core.specs.Readings.{ReadsOn, none_asked}
-use Rattle.lane_core.specs.Releasings.{hand_in, rest_in}
-use Rattle.lane_core.proofs.ReadLaws.{then_on}
+use Rattle.lane_stages.specs.declared.retirement.Ending.{Ending}
+use Rattle.lane_stages.specs.declared.retirement.Ending.TheVariants.{Root, Cache, Arena, Home}
+use Rattle.lane_stages.specs.declared.stage_step.StageStep.TheVariants.{Held as HeldBack}
+use Rattle.lane_stages.specs.declared.stepped.Stepped.{Stepped}
+use Rattle.lane_stages.specs.declared.stepped.Stepped.TheVariants.{Went, Pending, Finished}
+use Rattle.lane_stages.specs.Endings.{retired}
+use Rattle.seat_work.specs.Readings.{ReadsOn}
+use Rattle.lane_stages.specs.Readings.{none_asked}
+use Rattle.lane_stages.specs.Releasings.{hand_in, rest_in}
+use Rattle.seat_work.proofs.ReadLaws.{then_on}
 use Rattle.shared_composite.specs.declared.cores.Core.{Core}
 use Rattle.shared_composite.specs.Cores.{IsUnderway, Advances, HasStepped, with_ending, CountsJust, roots_of, left_of, rest_of, releases}
 use Rattle.shared_composite.specs.Endings.{Ended as EndStep, HasEnded, HasOnly, Holds, MayEnd, turns_in}

@@ -23,11 +23,12 @@ use Rattle.shared_pool.specs.SeatViews.{view_of, SameSeat}
 use Rattle.seat_work.specs.Changes.{times}
 use Rattle.seat_work.specs.Growth.{HasMore, is_quiet_entry}
 use Rattle.seat_work.specs.Hands.{empty_hand, IsHeld}
-use Rattle.lane_core.specs.declared.lane.Stepped.{Stepped}
-use Rattle.lane_core.specs.declared.lane.Stepped.TheVariants.{Went, Pending, Waiting, Finished}
-use Rattle.lane_core.specs.declared.retirement.Ending.{Ending}
-use Rattle.lane_core.specs.Readings.{ReadsOn, none_asked}
-use Rattle.lane_core.specs.Releasings.{hand_in, rest_in}
+use Rattle.lane_stages.specs.declared.stepped.Stepped.{Stepped}
+use Rattle.lane_stages.specs.declared.stepped.Stepped.TheVariants.{Went, Pending, Waiting, Finished}
+use Rattle.lane_stages.specs.declared.retirement.Ending.{Ending}
+use Rattle.seat_work.specs.Readings.{ReadsOn}
+use Rattle.lane_stages.specs.Readings.{none_asked}
+use Rattle.lane_stages.specs.Releasings.{hand_in, rest_in}
 use Rattle.shared_composite.specs.declared.cores.Core.{Core}
 use Rattle.shared_composite.specs.Endings.{Holds, HasOnly, turns_in}
 

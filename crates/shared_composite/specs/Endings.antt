@@ -20,12 +20,13 @@ use Rattle.shared_pool.specs.SeatViews.{view_of, SameSeat}
 use Rattle.seat_work.specs.Changes.{Changes, no_change}
 use Rattle.seat_work.specs.Growth.{HasMore, is_quiet_entry}
 use Rattle.seat_work.specs.Hands.{Hand, IsHeld, is_place, is_token, held_weight}
-use Rattle.lane_core.specs.declared.retirement.Ending.{Ending}
-use Rattle.lane_core.specs.declared.retirement.Ending.TheVariants.{Root, Cache, Arena, Home}
-use Rattle.lane_core.specs.declared.stage_step.StageStep.{StageStep}
-use Rattle.lane_core.specs.declared.stage_step.StageStep.TheVariants.{More, Held, Done}
-use Rattle.lane_core.specs.Readings.{ReadsOn, none_asked}
-use Rattle.lane_core.specs.Releasings.{hand_in, rest_in}
+use Rattle.lane_stages.specs.declared.retirement.Ending.{Ending}
+use Rattle.lane_stages.specs.declared.retirement.Ending.TheVariants.{Root, Cache, Arena, Home}
+use Rattle.lane_stages.specs.declared.stage_step.StageStep.{StageStep}
+use Rattle.lane_stages.specs.declared.stage_step.StageStep.TheVariants.{More, Held, Done}
+use Rattle.seat_work.specs.Readings.{ReadsOn}
+use Rattle.lane_stages.specs.Readings.{none_asked}
+use Rattle.lane_stages.specs.Releasings.{hand_in, rest_in}
 
 -- the turns that the rest of an end takes at most
 abbrev pub turns_in : Option Ending → ℕ

@@ -3,12 +3,12 @@
 ghost use Rattle.std.specs.Prelude.{◌≡◌, ◌↔◌, ◌≤◌, Some, None};
 ghost use Rattle.shared_pool.specs.declared.pool.SharedPool.{SharedPool};
 ghost use Rattle.shared_pool.specs.SeatViews.{view_of};
-ghost use Rattle.lane_core.specs.declared.lane.Stepped.TheVariants.{Finished};
+ghost use Rattle.lane_stages.specs.declared.stepped.Stepped.TheVariants.{Finished};
 ghost use Rattle.shared_composite.specs.Cores.{IsFit, IsCore, IsUnderway, IsOver, IsEmptied, HasStepped, with_ending};
 
 use crate::ending::{end, spend};
 use composite_buf::Composite;
-use lane_core::{Ending, StageStep, Stepped};
+use lane_stages::{Ending, StageStep, Stepped};
 use shared_pool::{PoolSeat, Release, SharedPool};
 use std::mem::replace;
 

@@ -3,10 +3,10 @@
 //! `PooledByteBuf.deallocate`)
 
 ghost use Rattle.shared_composite.specs.Endings.{MayEnd, HasEnded};
-ghost use Rattle.lane_core.specs.declared.retirement.Ending.{Ending};
+ghost use Rattle.lane_stages.specs.declared.retirement.Ending.{Ending};
 
 use handle_bin::Handle;
-use lane_core::{Ending, StageStep};
+use lane_stages::{Ending, StageStep};
 use pool_law::Region;
 use pool_table::EndToken;
 use shared_pool::{PoolSeat, Put, Retired, SharedPool, Went};

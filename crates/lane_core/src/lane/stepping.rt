@@ -1,19 +1,18 @@
 //! The steps of a lane: each command in its turn, and the closing of the caches behind them.
 
 ghost use Rattle.std.specs.Prelude.{◌≡◌, ◌+◌, ◌<◌, ◌&&◌, max, nat_le, Bool, IfOk, OnErr, Ok, ℕ};
-ghost use Rattle.lane_core.specs.declared.lane.Stepped.TheVariants.{Finished};
+ghost use Rattle.lane_stages.specs.declared.stepped.Stepped.TheVariants.{Finished};
 ghost use Rattle.lane_core.specs.Lanes.{Heeds, IsLane, IsRunningLane, IsStoppedLane, IsFinished, SameLane, number_of};
 ghost use Rattle.lane_core.specs.Steps.{HasStepped, at_stage, stepped_of};
 ghost use Rattle.lane_core.specs.Contexts.{next_of};
-ghost use Rattle.lane_core.specs.declared.draining.Draining.{Draining};
+ghost use Rattle.lane_stages.specs.declared.draining.Draining.{Draining};
 ghost use Rattle.lane_core.specs.declared.context.Stage.{Stage};
 
-use super::{Lane, Stepped};
+use super::Lane;
 use crate::context::{Stage, Turn};
-use crate::draining::Draining;
 use crate::gate::{Gate, Pass};
-use crate::notes::lane_of;
 use crate::prepared::{begin_with, provide};
+use lane_stages::{Draining, Stepped, lane_of};
 use shared_pool::SharedPool;
 use std::alloc::{AllocError, Global};
 use std::mem::replace;

@@ -4,8 +4,7 @@ use Rattle.pool_law.specs.Views.{in_range, can_read, can_write, after_read, afte
 use Rattle.lane_core.specs.declared.access.Access.{Access}
 use Rattle.lane_core.specs.Accesses.{IsMadeSet, IsPrepared, BindsBelow}
 use Rattle.lane_core.specs.Works.{IsUnplanned}
-use Rattle.lane_core.proofs.AccessNames.{prepared_set, prepared_get, prepared_write, prepared_read}
-use Rattle.lane_core.proofs.AccessNames.{set_within, get_within}
+use Rattle.lane_core.proofs.AccessNames.{prepared_set, prepared_get, prepared_write, prepared_read, set_within, get_within}
 use Rattle.lane_core.proofs.access.prepare.Goals as goal
 use Rattle.lane_core.proofs.access.prepare.Goals.{in-Set+in_ok-access-in-Set, in-Get+in_ok-access-in-Get, in-Write+in_ok-access-in-Write, in-Read+in_ok-access-in-Read}
 

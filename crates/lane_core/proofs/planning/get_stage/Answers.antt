@@ -2,7 +2,7 @@ use Rattle.std.proofs.Common.{◌≡◌, ◌≤◌, List, length, ap, ◌∙◌,
 use Rattle.std.proofs.lemmas.List.{take_all}
 use Rattle.pool_law.specs.declared.id.Part.{Part}
 use Rattle.pool_law.specs.Composites.{ranges}
-use Rattle.lane_core.specs.Crossings.{parts_of}
+use Rattle.lane_stages.specs.Crossings.{parts_of}
 use Rattle.lane_core.proofs.PlanParts.{is_got}
 use Rattle.lane_core.proofs.planning.get_stage.Goals as goal
 

@@ -1,6 +1,6 @@
 use Rattle.std.proofs.Common.{◌≡◌, ◌≤◌, length, take}
 use Rattle.std.specs.Prelude.{All, vec_capacity}
-use Rattle.lane_core.specs.Crossings.{parts_of}
+use Rattle.lane_stages.specs.Crossings.{parts_of}
 use Rattle.lane_core.specs.Plans.{IsSized}
 use Rattle.lane_core.proofs.planning.get_stage.Given as goal
 

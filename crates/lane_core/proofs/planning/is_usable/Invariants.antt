@@ -1,6 +1,6 @@
 use Rattle.std.proofs.Common.{◌<◌, take}
 use Rattle.std.specs.Prelude.{All}
-use Rattle.lane_core.specs.Counting.{counted}
+use Rattle.lane_stages.specs.Counting.{counted}
 use Rattle.lane_core.proofs.planning.is_usable.Given as goal
 
 abbrev pub invariant-loop-k : goal.invariant-loop-k

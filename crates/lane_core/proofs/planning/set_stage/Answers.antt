@@ -2,7 +2,7 @@ use Rattle.std.proofs.Common.{◌≡◌, ℕ, ◌+◌, ◌≤◌, List, rules, r
 use Rattle.std.proofs.lemmas.List.{take_all}
 use Rattle.pool_law.specs.declared.id.Part.{Part}
 use Rattle.pool_law.specs.Composites.{ranges, size_of}
-use Rattle.lane_core.specs.declared.crossing.Stretch.{Stretch}
+use Rattle.lane_stages.specs.declared.crossing.Stretch.{Stretch}
 use Rattle.lane_core.proofs.PlanParts.{bytes_more, ends_within, is_set, no_part, parts_more, size_within, sized_more}
 use Rattle.lane_core.proofs.planning.set_stage.Goals as goal
 

@@ -1,7 +1,7 @@
 use Rattle.std.proofs.Common.{◌≡◌, ◌≤◌, length, take}
 use Rattle.std.specs.Prelude.{All, vec_capacity}
 use Rattle.pool_law.specs.Composites.{size_of}
-use Rattle.lane_core.specs.Crossings.{bytes_of, parts_of}
+use Rattle.lane_stages.specs.Crossings.{bytes_of, parts_of}
 use Rattle.lane_core.specs.Plans.{IsSized}
 use Rattle.lane_core.proofs.planning.set_stage.Given as goal
 

@@ -5,7 +5,7 @@ use Rattle.lane_core.specs.declared.context.Context.{Context}
 use Rattle.lane_core.specs.declared.prepared.Prepared.{Prepared}
 use Rattle.lane_core.specs.declared.prepared.Prepared.TheVariants.{Work, Access, Alone}
 use Rattle.lane_core.specs.Accesses.{IsAccess}
-use Rattle.lane_core.specs.Budgets.{notes_alone}
+use Rattle.lane_stages.specs.Budgets.{notes_alone}
 use Rattle.lane_core.specs.Contexts.{left_for, HasRoomFor}
 use Rattle.lane_core.specs.Named.{known_to}
 use Rattle.lane_core.specs.Prepared.{IsPreparedFor}

@@ -1,4 +1,4 @@
-use Rattle.lane_core.specs.declared.lane.Stepped.TheVariants.{Went, Pending}
+use Rattle.lane_stages.specs.declared.stepped.Stepped.TheVariants.{Went, Pending}
 use Rattle.share_run.proofs.CloseLaws.{ending_first, ending_on}
 use Rattle.share_run.proofs.closing.finish.Goals as goal
 

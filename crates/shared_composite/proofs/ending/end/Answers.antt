@@ -1,5 +1,5 @@
 use Rattle.std.proofs.Common.{sym, subst}
-use Rattle.lane_core.specs.declared.retirement.Ending.{Ending}
+use Rattle.lane_stages.specs.declared.retirement.Ending.{Ending}
 use Rattle.shared_composite.specs.Endings.{HasEnded}
 use Rattle.shared_composite.proofs.ending.end.Goals as goal
 

@@ -1,7 +1,7 @@
 use Rattle.std.proofs.Common.{ap}
 use Rattle.pool_law.specs.declared.id.Region.{Region}
 use Rattle.pool_law.specs.declared.note.Object.TheVariants.{Arena as ArenaObject}
-use Rattle.lane_core.specs.declared.retirement.Ending.TheVariants.{Arena}
+use Rattle.lane_stages.specs.declared.retirement.Ending.TheVariants.{Arena}
 use Rattle.shared_composite.proofs.EndSteps.{given_back, found_held}
 use Rattle.shared_composite.proofs.ending.give_back.Goals as goal
 

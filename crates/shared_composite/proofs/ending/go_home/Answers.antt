@@ -1,7 +1,7 @@
 use Rattle.std.proofs.Common.{ap}
 use Rattle.pool_law.specs.declared.note.Object.TheVariants.{Bin}
 use Rattle.handle_bin.specs.Bins.{HandleValue}
-use Rattle.lane_core.specs.declared.retirement.Ending.TheVariants.{Home}
+use Rattle.lane_stages.specs.declared.retirement.Ending.TheVariants.{Home}
 use Rattle.shared_composite.proofs.EndSteps.{gone_home, found_held}
 use Rattle.shared_composite.proofs.ending.go_home.Goals as goal
 

@@ -5,8 +5,8 @@ use Rattle.shared_pool.specs.CacheAnswers.{was_put, IfBack}
 use Rattle.shared_pool.specs.Notes.{plain}
 use Rattle.shared_pool.specs.Seats.{IsNoted}
 use Rattle.shared_pool.specs.declared.went.Put.{Put}
-use Rattle.lane_core.specs.declared.retirement.Ending.TheVariants.{Cache as AskCache, Arena as AskArena}
-use Rattle.lane_core.specs.declared.stage_step.StageStep.TheVariants.{More}
+use Rattle.lane_stages.specs.declared.retirement.Ending.TheVariants.{Cache as AskCache, Arena as AskArena}
+use Rattle.lane_stages.specs.declared.stage_step.StageStep.TheVariants.{More}
 use Rattle.shared_composite.specs.Endings.{HasEnded}
 use Rattle.shared_composite.proofs.EndSteps.{kept_there, came_back, away_busy}
 use Rattle.shared_composite.proofs.ending.put_away.Goals as goal

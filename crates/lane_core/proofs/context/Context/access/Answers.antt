@@ -4,7 +4,7 @@ use Rattle.lane_core.specs.declared.access.Access.{Access}
 use Rattle.lane_core.specs.declared.context.Stage.TheVariants.{Ready}
 use Rattle.lane_core.specs.declared.context.Turn.{Turn}
 use Rattle.lane_core.specs.Accesses.{IsReady, IsPrepared}
-use Rattle.lane_core.specs.Budgets.{notes_alone}
+use Rattle.lane_stages.specs.Budgets.{notes_alone}
 use Rattle.lane_core.specs.Contexts.{AccessFits, HasTurned}
 use Rattle.lane_core.specs.Named.{known_to}
 use Rattle.lane_core.specs.ContextSteps.{MayTurn, AccessTurns}

@@ -5,9 +5,9 @@ use Rattle.pool_law.specs.declared.run.Reply.{Reply}
 use Rattle.pool_law.specs.Views.{view_of as root_view}
 use Rattle.pool_law.specs.Names.{Bound, Plain}
 use Rattle.lane_core.specs.declared.context.Context.{Context}
-use Rattle.lane_core.specs.declared.allotment.Allotted.TheVariants.{NoHandle, Full}
-use Rattle.lane_core.specs.declared.stage_step.StageStep.TheVariants.{Done}
-use Rattle.lane_core.specs.Allotments as allotment
+use Rattle.lane_stages.specs.declared.allotment.Allotted.TheVariants.{NoHandle, Full}
+use Rattle.lane_stages.specs.declared.stage_step.StageStep.TheVariants.{Done}
+use Rattle.lane_stages.specs.Allotments as allotment
 use Rattle.lane_core.specs.ContextSteps.{Concludes}
 use Rattle.lane_core.proofs.AllotTurns.{allot_goes, allot_waits, allot_new, allot_refused}
 use Rattle.lane_core.proofs.StageNeeds.{done_with, may_allot, few_births, log_room}

@@ -1,9 +1,9 @@
 use Rattle.std.proofs.Common.{refl, subst}
 use Rattle.shared_pool.specs.SeatViews.{view_of}
 use Rattle.lane_core.specs.declared.context.Context.{Context}
-use Rattle.lane_core.specs.declared.draining.DrainKind.TheVariants.{Close}
-use Rattle.lane_core.specs.declared.draining.Drains.{Drains}
-use Rattle.lane_core.specs.Drainings as draining
+use Rattle.lane_stages.specs.declared.draining.DrainKind.TheVariants.{Close}
+use Rattle.lane_stages.specs.declared.draining.Drains.{Drains}
+use Rattle.lane_stages.specs.Drainings as draining
 use Rattle.lane_core.proofs.DrainTurns.{close_goes, close_waits}
 use Rattle.lane_core.proofs.StageNeeds.{may_drain, log_room}
 use Rattle.lane_core.proofs.context.Context.close.Goals as goal

@@ -2,9 +2,9 @@ use Rattle.std.proofs.Common.{refl, ◌∙◌, subst, arith}
 use Rattle.pool_law.specs.declared.command.Command.{Command}
 use Rattle.pool_law.specs.declared.run.Reply.{Reply}
 use Rattle.lane_core.specs.declared.context.Context.{Context}
-use Rattle.lane_core.specs.declared.allotment.Allotted.TheVariants.{NoHandle, Full}
-use Rattle.lane_core.specs.declared.stage_step.StageStep.TheVariants.{Done}
-use Rattle.lane_core.specs.Allotments as allotment
+use Rattle.lane_stages.specs.declared.allotment.Allotted.TheVariants.{NoHandle, Full}
+use Rattle.lane_stages.specs.declared.stage_step.StageStep.TheVariants.{Done}
+use Rattle.lane_stages.specs.Allotments as allotment
 use Rattle.lane_core.specs.Contexts.{HasRoomFor}
 use Rattle.lane_core.proofs.AllocTurns.{allot_can, counted_so, new_place, new_alone, new_few}
 use Rattle.lane_core.proofs.ConsolidateLaws.{room_beside}

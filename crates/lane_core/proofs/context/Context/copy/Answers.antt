@@ -2,7 +2,7 @@ use Rattle.std.proofs.Common.{length, refl, subst}
 use Rattle.pool_law.specs.declared.command.Command.{Command}
 use Rattle.seat_work.specs.Hands.{empty_hand}
 use Rattle.lane_core.specs.declared.context.Context.{Context}
-use Rattle.lane_core.specs.Copyings as copying
+use Rattle.lane_stages.specs.Copyings as copying
 use Rattle.lane_core.proofs.ConsolidateLaws.{room_beside}
 use Rattle.lane_core.proofs.CopyTurns.{copy_done, copy_goes, copy_waits, may_copy}
 use Rattle.lane_core.proofs.StageNeeds.{log_room}

@@ -1,13 +1,12 @@
-use Rattle.std.proofs.Common.{◌<◌, List, [], ◌∷◌, refl, sym, ap, subst, arith}
+use Rattle.std.proofs.Common.{◌<◌, List, [], ◌∷◌, refl, sym, ap, subst, arith, length, ◌-◌}
 use Rattle.pool_law.specs.declared.note.Note.{Note}
 use Rattle.lane_core.specs.declared.context.Context.{Context}
 use Rattle.lane_core.specs.ContextSteps.{HasNoted}
-use Rattle.lane_core.specs.Allotments.{left_with}
+use Rattle.lane_stages.specs.Allotments.{left_with}
 use Rattle.lane_core.proofs.ContextLaws.{room_to_note}
 use Rattle.lane_core.proofs.Commands.{counts_root, counted_place, few_of, alone_more, has_retained}
-use Rattle.lane_core.specs.declared.counts.Counted.{Counted}
-use Rattle.lane_core.specs.Counting.{counted}
-use Rattle.std.proofs.Common.{length, ◌-◌}
+use Rattle.lane_stages.specs.declared.counts.Counted.{Counted}
+use Rattle.lane_stages.specs.Counting.{counted}
 use Rattle.shared_pool.specs.SeatViews.{view_of}
 use Rattle.lane_core.proofs.context.Context.count_more.Goals as goal
 

@@ -5,7 +5,7 @@ use Rattle.seat_work.specs.Hands.{empty_hand}
 use Rattle.lane_core.specs.declared.context.Context.{Context}
 use Rattle.lane_core.specs.declared.context.Stage.TheVariants.{Crossing}
 use Rattle.lane_core.specs.declared.context.Turn.{Turn}
-use Rattle.lane_core.specs.Crossings as crossing
+use Rattle.lane_stages.specs.Crossings as crossing
 use Rattle.lane_core.specs.Contexts.{HasTurned}
 use Rattle.lane_core.specs.ContextSteps.{HasReplied}
 use Rattle.lane_core.proofs.CrossTurns.{cross_can, cross_goes, cross_waits, cross_was_got, cross_was_set, marked_can, may_cross}

@@ -2,7 +2,7 @@ use Rattle.std.proofs.Common.{refl, sym, subst}
 use Rattle.lane_core.specs.declared.context.Context.{Context}
 use Rattle.lane_core.specs.declared.context.Stage.TheVariants.{Ending}
 use Rattle.lane_core.specs.declared.context.Turn.{Turn}
-use Rattle.lane_core.specs.Endings as ending
+use Rattle.lane_stages.specs.Endings as ending
 use Rattle.lane_core.specs.Contexts.{HasTurned}
 use Rattle.lane_core.proofs.EndTurns.{end_goes, end_waits, end_done}
 use Rattle.lane_core.proofs.StageNeeds.{may_end, log_room, end_can}

@@ -3,7 +3,7 @@ use Rattle.pool_law.specs.declared.command.Command.{Command}
 use Rattle.lane_core.specs.declared.context.Context.{Context}
 use Rattle.lane_core.specs.declared.context.Stage.TheVariants.{Parting}
 use Rattle.lane_core.specs.declared.context.Turn.{Turn}
-use Rattle.lane_core.specs.Releasings as releasing
+use Rattle.lane_stages.specs.Releasings as releasing
 use Rattle.lane_core.specs.Contexts.{HasTurned}
 use Rattle.lane_core.proofs.ReleaseTurns.{may_release, part_done, part_goes, part_waits, release_can}
 use Rattle.lane_core.proofs.StageNeeds.{log_room}

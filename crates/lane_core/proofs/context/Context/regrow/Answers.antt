@@ -6,7 +6,7 @@ use Rattle.pool_law.specs.declared.run.Reply.{Reply}
 use Rattle.pool_law.specs.Names.{Plain}
 use Rattle.pool_law.specs.Views.{reaching}
 use Rattle.lane_core.specs.declared.context.Context.{Context}
-use Rattle.lane_core.specs.Growings as growing
+use Rattle.lane_stages.specs.Growings as growing
 use Rattle.lane_core.specs.ContextSteps.{CanAnswer, Concludes}
 use Rattle.lane_core.proofs.GrowTurns.{covers, grow_can, grow_done, grow_full, grow_goes, grow_waits, may_grow, name_within}
 use Rattle.lane_core.proofs.StageNeeds.{done_with, log_room}

@@ -13,7 +13,7 @@ use Rattle.shared_pool.specs.SeatLanes.{lane_of}
 use Rattle.lane_core.specs.declared.access.Owned.{Owned}
 use Rattle.lane_core.specs.declared.access.Owned.TheVariants.{View as OwnView, Composite as OwnComposite}
 use Rattle.lane_core.specs.Accesses.{reply_for, IsOwned}
-use Rattle.lane_core.specs.declared.counts.Counted.{Counted}
+use Rattle.lane_stages.specs.declared.counts.Counted.{Counted}
 use Rattle.lane_core.specs.Composing.{HasLast}
 use Rattle.shared_pool.specs.declared.went.Release.{Release}
 use Rattle.shared_pool.specs.RootNotes.{IsReleasedAs}

@@ -3,8 +3,8 @@ use Rattle.pool_law.specs.declared.command.Command.{Command}
 use Rattle.lane_core.specs.declared.context.Context.{Context}
 use Rattle.lane_core.specs.declared.context.Stage.TheVariants.{Replacing}
 use Rattle.lane_core.specs.declared.context.Turn.TheVariants.{Went}
-use Rattle.lane_core.specs.declared.releasing.Releasing.{Releasing}
-use Rattle.lane_core.specs.Releasings as releasing
+use Rattle.lane_stages.specs.declared.releasing.Releasing.{Releasing}
+use Rattle.lane_stages.specs.Releasings as releasing
 use Rattle.lane_core.specs.Contexts.{HasTurned}
 use Rattle.lane_core.proofs.PartTurns.{bindable_on}
 use Rattle.lane_core.proofs.ReleaseTurns.{may_release, release_can, replace_bound, replace_goes, replace_more, replace_waits}

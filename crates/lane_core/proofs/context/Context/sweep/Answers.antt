@@ -3,12 +3,12 @@ use Rattle.shared_pool.specs.SeatViews.{view_of}
 use Rattle.lane_core.specs.declared.context.Context.{Context}
 use Rattle.lane_core.specs.declared.context.Stage.TheVariants.{Sweeping}
 use Rattle.lane_core.specs.declared.context.Turn.{Turn}
-use Rattle.lane_core.specs.declared.draining.DrainKind.TheVariants.{Trim}
-use Rattle.lane_core.specs.declared.draining.Draining.{Draining}
-use Rattle.lane_core.specs.declared.draining.Drains.{Drains}
-use Rattle.lane_core.specs.declared.draining.Drains.TheVariants.{More as DrainMore}
+use Rattle.lane_stages.specs.declared.draining.DrainKind.TheVariants.{Trim}
+use Rattle.lane_stages.specs.declared.draining.Draining.{Draining}
+use Rattle.lane_stages.specs.declared.draining.Drains.{Drains}
+use Rattle.lane_stages.specs.declared.draining.Drains.TheVariants.{More as DrainMore}
 use Rattle.lane_core.specs.Contexts.{HasTurned}
-use Rattle.lane_core.specs.Drainings as draining
+use Rattle.lane_stages.specs.Drainings as draining
 use Rattle.lane_core.proofs.DrainTurns.{sweep_goes, sweep_waits, sweep_done}
 use Rattle.lane_core.proofs.StageNeeds.{may_drain, drain_can, log_room}
 use Rattle.lane_core.proofs.context.Context.sweep.Goals as goal

@@ -1,14 +1,15 @@
 use Rattle.std.proofs.Common.{◌≡◌, [], refl, sym, ap, ◌∙◌, subst}
 use Rattle.pool_law.specs.Patterns.{closing}
 use Rattle.shared_pool.specs.SeatViews.{view_of}
-use Rattle.lane_core.specs.declared.draining.DrainKind.TheVariants.{Close}
+use Rattle.lane_stages.specs.declared.draining.DrainKind.TheVariants.{Close}
 use Rattle.lane_core.specs.declared.context.Stage.{Stage}
 use Rattle.lane_core.specs.declared.context.Stage.TheVariants.{Closing}
 use Rattle.lane_core.specs.declared.lane.Lane.{Lane}
-use Rattle.lane_core.specs.declared.lane.Stepped.{Stepped}
-use Rattle.lane_core.specs.Drainings as draining
+use Rattle.lane_stages.specs.declared.stepped.Stepped.{Stepped}
+use Rattle.lane_stages.specs.Drainings as draining
 use Rattle.lane_core.specs.Contexts.{HasRoomFor}
-use Rattle.lane_core.specs.Readings.{ReadsOn, none_asked}
+use Rattle.seat_work.specs.Readings.{ReadsOn}
+use Rattle.lane_stages.specs.Readings.{none_asked}
 use Rattle.lane_core.specs.Lanes.{Heeds, IsLane, SameLane, commands_left, entries_since, number_of}
 use Rattle.lane_core.specs.Steps.{HasStepped, at_stage, stepped_of}
 use Rattle.lane_core.proofs.CloseTurns.{closing_same, closing_so, closing_next}

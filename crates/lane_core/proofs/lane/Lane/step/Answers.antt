@@ -6,10 +6,10 @@ use Rattle.lane_core.specs.declared.lane.Lane.{Lane}
 use Rattle.shared_pool.specs.SeatViews.{view_of}
 use Rattle.lane_core.specs.declared.context.Stage.{Stage}
 use Rattle.lane_core.specs.declared.context.Stage.TheVariants.{Ready, Closing}
-use Rattle.lane_core.specs.declared.draining.Draining.TheVariants.{Done}
+use Rattle.lane_stages.specs.declared.draining.Draining.TheVariants.{Done}
 use Rattle.pool_law.specs.LaneStates.{LaneState}
 use Rattle.lane_core.specs.Named.{NamesAre}
-use Rattle.lane_core.specs.declared.lane.Stepped.{Stepped}
+use Rattle.lane_stages.specs.declared.stepped.Stepped.{Stepped}
 use Rattle.lane_core.specs.Contexts.{IsContext, hand_of, Fits, NameFits, IsUnderway, HasTurned, HasRoomFor, left_at}
 use Rattle.lane_core.specs.Lanes.{Heeds, IsLane, IsRunningLane, SameLane, number_of}
 use Rattle.lane_core.specs.Steps.{HasStepped, at_stage}

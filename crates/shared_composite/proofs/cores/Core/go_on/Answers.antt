@@ -1,6 +1,6 @@
 use Rattle.std.proofs.Common.{ap, subst}
 use Rattle.std.specs.Prelude.{Option, Some, None}
-use Rattle.lane_core.specs.declared.retirement.Ending.{Ending}
+use Rattle.lane_stages.specs.declared.retirement.Ending.{Ending}
 use Rattle.shared_composite.specs.Endings.{HasEnded}
 use Rattle.shared_composite.proofs.ReleaseSteps.{core_at, may_end, ended_so, held_so}
 use Rattle.shared_composite.proofs.cores.Core.go_on.Goals as goal

@@ -1,7 +1,7 @@
 use Rattle.std.proofs.Common.{◌≡◌, sym, ◌∙◌, subst}
 use Rattle.std.specs.Prelude.{◌↔◌, Option, Some}
-use Rattle.lane_core.specs.declared.lane.Stepped.TheVariants.{Finished}
-use Rattle.lane_core.specs.declared.retirement.Ending.{Ending}
+use Rattle.lane_stages.specs.declared.stepped.Stepped.TheVariants.{Finished}
+use Rattle.lane_stages.specs.declared.retirement.Ending.{Ending}
 use Rattle.shared_composite.specs.Cores.{IsUnderway, HasStepped, IsOver, with_ending}
 use Rattle.shared_composite.proofs.cores.Core.step.Goals as goal
 

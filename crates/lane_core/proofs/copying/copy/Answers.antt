@@ -1,9 +1,0 @@
-use Rattle.std.proofs.Common.{arith}
-use Rattle.lane_core.proofs.CopySteps.{copy_left}
-use Rattle.lane_core.proofs.copying.copy.Goals as goal
-
-pub get_next-requires-clause-room : goal.get_next-requires-clause-room
-get_next-requires-clause-room c = let a = c.requires.room in let b = copy_left c.args.stage in omega (arith, a, b)
-
-pub set_next-requires-clause-room : goal.set_next-requires-clause-room
-set_next-requires-clause-room c = let a = c.requires.room in let b = copy_left c.args.stage in omega (arith, a, b)

@@ -1,0 +1,55 @@
+-- What a lane counts, where it counts nothing, and once the count at a place has changed.
+use Rattle.std.proofs.Common.{◌≡◌, ℕ, ◌+◌, ◌<◌, Bool, true, false, List, length, refl, ap, ◌∙◌, arith, Some}
+use Rattle.std.specs.Prelude.{if◌then◌else◌, slice_get, slice_set}
+use Rattle.pool_law.specs.declared.id.RootId.{RootId}
+use Rattle.pool_law.specs.Same.{same_root}
+use Rattle.pool_law.proofs.SameLemmas.{same_root-is}
+use Rattle.lane_stages.specs.declared.counts.Counted.{Counted}
+use Rattle.seat_work.specs.Changes.{one_for}
+use Rattle.seat_work.proofs.CountedPlaces as places
+use Rattle.lane_stages.specs.Counting.{if_counted, counted}
+
+-- what an item counts, and of which root
+abbrev root_of : Counted → RootId
+root_of c = c.root
+
+abbrev count_of : Counted → ℕ
+count_of c = c.count
+
+pub counted_within : (cs : List Counted) (root : RootId) → 0 < counted cs root → root.place < length cs
+counted_within cs root lt = places.counted_within root_of count_of if_counted (λ _. refl) (λ _ _. refl) cs root lt
+
+module _ (cs : List Counted) (root : RootId) (c : Counted) (at : slice_get cs root.place ≡ Some c) where
+  -- what is there is this root, or another one
+  pub added_again : ((other : RootId) → other.place ≡ root.place → 0 < counted cs other → other ≡ root)
+      → same_root c.root root ≡ true → (other : RootId)
+      → counted (slice_set cs root.place (record { root = c.root; count = c.count + 1 })) other
+      ≡ counted cs other + one_for root other
+  added_again alone equal =
+      let before : counted cs root ≡ c.count =
+      places.here root_of count_of if_counted (λ _. refl) (λ _ _. refl) cs root c at root refl
+      ∙ ap (λ (b : Bool). if b then c.count else 0) equal in
+      places.added root_of count_of if_counted (λ _. refl) (λ _ _. refl) cs root c at alone
+      (record { root = c.root; count = c.count + 1 }) (same_root-is c.root root equal)
+      (omega (arith, before))
+
+  pub added_first : ((other : RootId) → other.place ≡ root.place → 0 < counted cs other → other ≡ root)
+      → same_root c.root root ≡ false → (other : RootId)
+      → counted (slice_set cs root.place (record { root = root; count = 1 })) other
+      ≡ counted cs other + one_for root other
+  added_first alone differs =
+      let before : counted cs root ≡ 0 =
+      places.here root_of count_of if_counted (λ _. refl) (λ _ _. refl) cs root c at root refl
+      ∙ ap (λ (b : Bool). if b then c.count else 0) differs in
+      places.added root_of count_of if_counted (λ _. refl) (λ _ _. refl) cs root c at alone
+      (record { root = root; count = 1 }) refl (omega (arith, before))
+
+  -- the root is counted, and is now counted once less
+  pub taken : 0 < counted cs root → (x : Counted) → x.root ≡ c.root → x.count + 1 ≡ c.count → (other : RootId)
+      → counted (slice_set cs root.place x) other + one_for root other ≡ counted cs other
+  taken = places.taken root_of count_of if_counted (λ _. refl) (λ _ _. refl) cs root c at
+
+-- what is at the place of a root that is counted is counted
+pub at_counted : (cs : List Counted) (root : RootId) (c : Counted) → slice_get cs root.place ≡ Some c
+    → 0 < counted cs root → 0 < c.count
+at_counted cs root c at lt = places.at_counted root_of count_of if_counted (λ _. refl) (λ _ _. refl) cs root c at lt

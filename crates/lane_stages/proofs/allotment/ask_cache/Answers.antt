@@ -1,0 +1,45 @@
+use Rattle.std.proofs.Common.{◌≡◌, ◌∙◌, subst}
+use Rattle.std.specs.Prelude.{Option, IfSome}
+use Rattle.pool_law.specs.declared.id.Region.{Region}
+use Rattle.pool_law.specs.declared.note.Did.{Did}
+use Rattle.pool_law.specs.declared.note.Note.{Note}
+use Rattle.pool_law.specs.declared.note.Object.TheVariants.{Cache}
+use Rattle.shared_pool.specs.Holding.{HoldsRegion}
+use Rattle.shared_pool.specs.Notes.{plain, hit}
+use Rattle.shared_pool.specs.SeatLanes.{lane_of}
+use Rattle.shared_pool.specs.Seats.{IsNoted}
+use Rattle.lane_stages.proofs.AllotSteps.{cache_hit, cache_empty, cache_busy}
+use Rattle.lane_stages.proofs.allotment.ask_cache.Goals as goal
+
+pub returns-in-Did-default-Some : goal.returns-in-Did-default-Some
+returns-in-Did-default-Some c = λ sampler size.
+    let pool = c.args.pool.now in let old = c.args.seat.now in let new = c.pop_cached.new.seat in let did =
+    c.in-Did-default-Some in let class = c.args.class in
+    let noted = subst (λ (x : Option Region). IsNoted pool old new (Cache (lane_of old) class) did.number
+    (plain (hit x))) did.field-1-is did.ensures.did in
+    let holds = subst (λ (x : Option Region). IfSome x
+    (λ r. HoldsRegion pool new r × (r.id.owner ≡ lane_of old) × (r.id.class ≡ class))) did.field-1-is
+    did.ensures.region in
+    let it : c.at.result ≡ Note.At (Cache (lane_of old) class) did.number (Did.Hit did.region.id) = c.at.ensures
+    ∙ (λ i. Note.At (Cache (c.lane_of.ensures.lane i) class) did.number (Did.Hit did.region.id)) in
+    cache_hit pool old new class did.ensures.seat did.ensures.same did.number c.at.result c.args.log.now c.write.new.log
+    c.write.ensures sampler size c.args.handle did.region c.requires.may noted holds.0 holds.2 it
+
+pub returns-in-Did-default-None : goal.returns-in-Did-default-None
+returns-in-Did-default-None c = λ sampler size.
+    let pool = c.args.pool.now in let old = c.args.seat.now in let new = c.pop_cached.new.seat in let did =
+    c.in-Did-default-None in let class =
+    c.args.class in let call = c.at-in-Did-default-None in let wrote = c.write-in-Did-default-None in
+    let noted = subst (λ (x : Option Region). IsNoted pool old new (Cache (lane_of old) class) did.number
+    (plain (hit x))) did.field-1-is did.ensures.did in
+    let it : call.result ≡ Note.At (Cache (lane_of old) class) did.number Did.Miss = call.ensures
+    ∙ (λ i. Note.At (Cache (c.lane_of.ensures.lane i) class) did.number Did.Miss) in
+    cache_empty pool old new class did.ensures.seat did.ensures.same did.number call.result c.args.log.now wrote.new.log
+    wrote.ensures sampler size c.args.handle c.requires.may noted it
+
+pub returns-in-Held : goal.returns-in-Held
+returns-in-Held c = λ sampler size.
+    let wrote = c.write-in-Held in
+    cache_busy c.args.pool.now c.args.seat.now c.pop_cached.new.seat c.args.class c.in-Held.ensures.seat
+    c.in-Held.ensures.same c.args.handle c.in-Held.held c.args.log.now wrote.new.log wrote.ensures sampler size
+    c.requires.may c.in-Held.ensures.held

@@ -1,0 +1,14 @@
+pub mod Logs
+pub mod Counting
+pub mod Budgets
+pub mod Sampled
+pub mod Readings
+pub mod NextNotes
+pub mod Wrote
+pub mod Allotments
+pub mod Endings
+pub mod Growings
+pub mod Drainings
+pub mod Crossings
+pub mod Copyings
+pub mod Releasings
