@@ -58,3 +58,9 @@ pub if_small : (pool : SharedPool) (s : PoolSeat) (size class : ℕ) (r : Result
 if_small pool s size class (Ok root) e is =
     let a = is.0 in let b = class_small pool size class e in omega (arith, a, b)
 if_small pool s size class (Err why) e is = tt
+
+-- a root of so many bytes that is counted has so many
+pub if_sized : (size : ℕ) (s : PoolSeat) (r : Result RootId AllocNo)
+    → IfOk r (λ root. (root.capacity ≡ size) × HasCount root (view_of s)) → IfOk r (λ root. root.capacity ≡ size)
+if_sized size s (Ok root) is = is.0
+if_sized size s (Err why) is = tt

@@ -6,4 +6,5 @@ pub mod HandOvers
 pub mod Works
 pub mod Readings
 pub mod Answers
+pub mod Names
 pub mod Regrowths

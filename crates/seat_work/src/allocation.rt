@@ -12,6 +12,7 @@ ghost use Rattle.shared_pool.specs.SeatViews.{view_of};
 ghost use Rattle.seat_work.specs.Hands.{empty_hand, IsHandle, IsRegion};
 ghost use Rattle.seat_work.specs.Readings.{NotesOn};
 ghost use Rattle.seat_work.specs.Works.{HasBorn, IsLater, Proceeds, Works};
+ghost use Rattle.seat_work.specs.Names.{of_name};
 ghost use Rattle.seat_work.specs.Answers.{with_place, with_both, hand_got, handle_told, allocated, with_arena, with_class, with_got, Allots, TookHandle, IsWorn, IsWornAt};
 
 use crate::birth::bear;
@@ -35,9 +36,17 @@ pub enum AllocNo {
     Worn,
 }
 
+// The name of a root: all of it but its capacity.
+#[derive(Clone, Copy, Drop)]
+struct Name {
+    place: u32,
+    generation: u32,
+}
+
 /// A new root of `size` bytes, all 0, that the seat then counts once. `class` is that of the size.
 /// A refusal leaves the seat with nothing in hand, and its counts as they were. On the way no bytes
 /// are accessed and no parcel is passed.
+#[inline(always)]
 pub fn allocate<W: Wait>(
     rt: &W,
     pool: &SharedPool,
@@ -60,9 +69,61 @@ pub fn allocate<W: Wait>(
         Allots (allot shape (lane_of seat.old) size) class watch result
         (view_of seat.old) (view_of seat.new) }
 {
+    match allocate_named(rt, pool, seat, size, class, &watch) {
+        Ok(name) => Ok(RootId {
+            place: name.place,
+            generation: name.generation,
+            capacity: size,
+        }),
+        Err(no) => Err(no),
+    }
+}
+
+// The same. The answer is what the caller doesn't know yet of the root: one word, which is read as it
+// was written, however the caller takes the root apart.
+fn allocate_named<W: Wait>(
+    rt: &W,
+    pool: &SharedPool,
+    seat: &mut PoolSeat,
+    size: u32,
+    class: u32,
+    watch: &Option<Watch>,
+) -> Result<Name, AllocNo>
+    requires works { Works pool.now empty_hand 6 0 seat.old }
+    requires class { class_of (geometry_of pool.now.table.layout.shape) size ≡ Some class }
+    ensures proceeds { Proceeds pool.now empty_hand 6 0 (allocated (of_name size result))
+        seat.old seat.new }
+    ensures root { IfOk (of_name size result)
+        (λ root. (root.capacity ≡ size) × HasCount root (view_of seat.new)) }
+    ensures place { let shape = pool.now.table.layout.shape in
+        IfOk (of_name size result) (λ root. root.place < shape.lanes * shape.handles) }
+    ensures small { IfOk (of_name size result) (λ root. root.capacity ≤ most_capacity) }
+    ensures born { IfOk (of_name size result)
+        (λ root. HasBorn pool.now root seat.old seat.new) }
+    ensures later { IsLater pool.now seat.old seat.new }
+    ensures worn { IfErr (of_name size result) (IsWorn pool.now seat.old seat.new) }
+    ensures allots { let shape = pool.now.table.layout.shape in
+        Allots (allot shape (lane_of seat.old) size) class watch.now (of_name size result)
+        (view_of seat.old) (view_of seat.new) }
+{
     match pop_handle(rt, pool, seat) {
-        Some(handle) => allocate_at(rt, pool, seat, handle, size, class, &watch),
+        Some(handle) => named(allocate_at(rt, pool, seat, handle, size, class, watch)),
         None => Err(AllocNo::NoHandle),
+    }
+}
+
+// A root's name, in place of the root.
+#[inline(always)]
+fn named(born: Result<RootId, AllocNo>) -> Result<Name, AllocNo>
+    ensures { (size : ℕ) → IfOk born (λ root. root.capacity ≡ size) →
+        of_name size result ≡ born }
+{
+    match born {
+        Ok(root) => Ok(Name {
+            place: root.place,
+            generation: root.generation,
+        }),
+        Err(no) => Err(no),
     }
 }
 

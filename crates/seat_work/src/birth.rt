@@ -17,7 +17,7 @@ use pool_law::{Region, RootId, Watch};
 use shared_pool::{PoolSeat, SharedPool, Worn};
 
 // A root is born of a handle and a region, if the handle's place isn't worn out. Else both come
-// back.
+// back. The root is made anew of what isn't known of it, since it stays in registers so.
 #[inline(always)]
 pub(crate) fn bear(
     pool: &SharedPool,
@@ -50,7 +50,11 @@ pub(crate) fn bear(
     ensures later { IsLater pool.now seat.old seat.new }
 {
     match pool.try_birth(seat, handle, region, capacity, *watch) {
-        Ok((_number, root)) => Ok(root),
+        Ok((_number, root)) => Ok(RootId {
+            place: root.place,
+            generation: root.generation,
+            capacity,
+        }),
         Err(worn) => Err(worn),
     }
 }

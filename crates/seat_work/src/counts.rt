@@ -7,7 +7,8 @@ ghost use Rattle.seat_work.specs.Hands.{empty_hand};
 ghost use Rattle.seat_work.specs.Changes.{once_more, once_less};
 ghost use Rattle.seat_work.specs.Works.{IsLater, Proceeds, Works};
 
-use crate::ending::end;
+use crate::ending::{put_handle, retire};
+use crate::regions::put_back;
 use pool_law::RootId;
 use shared_pool::{PoolSeat, Release, SharedPool};
 use std::sync::Wait;
@@ -37,7 +38,9 @@ pub fn release<W: Wait>(rt: &W, pool: &SharedPool, seat: &mut PoolSeat, root: Ro
     match pool.release(seat, root) {
         Release::Kept => false,
         Release::Ended(token) => {
-            end(rt, pool, seat, token);
+            let (handle, region) = retire(pool, seat, token);
+            put_back(rt, pool, seat, Some(&handle), region);
+            put_handle(rt, pool, seat, handle);
             true
         }
     }

@@ -20,21 +20,9 @@ use pool_table::EndToken;
 use shared_pool::{PoolSeat, Retired, SharedPool, Went};
 use std::sync::Wait;
 
-// A root whose count ended, ends.
-#[inline(always)]
-pub(crate) fn end<W: Wait>(rt: &W, pool: &SharedPool, seat: &mut PoolSeat, token: EndToken)
-    requires works { Works pool.now (with_token token.root) 4 0 seat.old }
-    requires token { HoldsToken seat.old token }
-    ensures proceeds { Proceeds pool.now empty_hand 4 0 no_change seat.old seat.new }
-    ensures later { IsLater pool.now seat.old seat.new }
-{
-    let (handle, region) = retire(pool, seat, token);
-    put_away(rt, pool, seat, handle, region);
-}
-
 // The root's end is noted, and the handle of its place and its region come.
 #[inline(always)]
-fn retire(pool: &SharedPool, seat: &mut PoolSeat, token: EndToken) -> (Handle, Region)
+pub(crate) fn retire(pool: &SharedPool, seat: &mut PoolSeat, token: EndToken) -> (Handle, Region)
     requires works { Works pool.now (with_token token.root) 1 0 seat.old }
     requires token { HoldsToken seat.old token }
     ensures proceeds { Proceeds pool.now (with_both result.0.place result.1.id) 1 0 no_change
