@@ -17,6 +17,7 @@ ghost use Rattle.frame_cut.specs.Tellings.{HasTold};
 
 use crate::closing::{StreamEnd, close, gather};
 use crate::openings::{Opened, open};
+use crate::pages::touch_pages;
 use frame_cutter::{Cutter, Cutting, Verdict};
 use frame_hash::{Shop, Worker};
 use frame_words::CutOptions;
@@ -40,6 +41,7 @@ pub fn hash_stream<R: Threads + Wait + Sync, S: Source>(
         (source_span S.left S.faults source.old source.new)) }
     ensures none { OnErr result (S.faults source.new ≡ S.faults source.old) }
 {
+    touch_pages(rt, alloc);
     let Opened {
         pool,
         queues,

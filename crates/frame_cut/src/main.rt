@@ -14,6 +14,7 @@ mod closing;
 mod hashing;
 mod line;
 mod openings;
+mod pages;
 mod run;
 mod text;
 

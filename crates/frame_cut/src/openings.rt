@@ -29,9 +29,6 @@ pub const SEAT_TURNS: u64 = 72_057_594_037_927_936;
 /// The most lanes: those of fifteen workers, and the cutter's.
 const MOST_LANES: usize = 16;
 
-/// More than what is let go of at a time while a pool opens.
-const KEPT: usize = 16_777_216;
-
 /// The queues of the workers, in order, with both ends of each.
 #[derive(Drop)]
 struct Lines {
@@ -57,7 +54,6 @@ pub fn open(alloc: Global, options: CutOptions) -> Result<Opened, AllocError>
     requires { AreOptions options }
     ensures { IfOk result (IsOpen options.workers options.block) }
 {
-    keep_pages(alloc);
     let count = options.workers as usize;
     let lines = new_lines(alloc, count)?;
     let class = class_for(alloc, options.block)?;
@@ -97,12 +93,6 @@ pub fn open(alloc: Global, options: CutOptions) -> Result<Opened, AllocError>
             Err(AllocError)
         }
     }
-}
-
-// From here on the C library hands out again what is let go of, and its pages with it. Else what a
-// mail takes only while it is made goes back to the system, and the chunks need new pages.
-fn keep_pages(alloc: Global) {
-    let _unused: Result<Vec<u8>, AllocError> = Vec::with_capacity(alloc, KEPT);
 }
 
 // So many queues.

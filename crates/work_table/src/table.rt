@@ -131,6 +131,11 @@ impl<M, T: Playing<M>> Table<M, T> {
         true
     }
 
+    /// How many machines it is for.
+    pub fn count(&self) -> usize {
+        self.places.len()
+    }
+
     /// Whether one found no memory.
     pub fn has_failed(&self) -> bool {
         self.failed

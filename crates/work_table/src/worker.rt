@@ -12,10 +12,6 @@ use std::sync::ledger::{Ledger, Share};
 use std::sync::{Mutex, Wait};
 use std::thread;
 
-/// A machine that goes on for long counts a change after so many steps, for the machines that wait
-/// for it.
-const MOVES: u32 = 64;
-
 /// A worker that finds no machine looks again so often before it sleeps.
 const LOOKS: u32 = 16;
 
@@ -98,6 +94,39 @@ pub fn work_beside<E, O: Machine<E>, M: Machine<E>, T: Playing<M>, R: Wait>(
             Turn::Over => return,
         }
     }
+}
+
+/// This worker steps `own` alone, which no other does, until the table is over: each machine of the
+/// table has a worker of its own. Where the table is over first `own` stands as it stands.
+pub fn work_alone<E, O: Machine<E>, M, T: Playing<M>, R: Wait>(
+    rt: &R,
+    shared: &E,
+    own: &mut O,
+    table: &Mutex<ManuallyDrop<Table<M, T>>>,
+    changes: &EventCount,
+)
+    requires { (first : O) × O.comes shared.now first own.old }
+    ensures { (first : O) → O.comes shared.now first own.old → O.comes shared.now first own.new }
+{
+    let mut idle = 0u32;
+    let mut status = Status::Ready;
+    for _ in rt.forever() {
+        let seen = changes.read();
+        if status.can_go(seen) {
+            status = go_on(rt, shared, changes, own);
+            tell(rt, table, changes, status);
+            idle = 0;
+        } else if is_over(rt, table) {
+            return;
+        } else {
+            idle = rest(rt, changes, idle, seen);
+        }
+    }
+}
+
+// Whether all machines stand in the table finished, or one found no memory.
+fn is_over<M, T: Playing<M>, R: Wait>(rt: &R, table: &Mutex<ManuallyDrop<Table<M, T>>>) -> bool {
+    table.lock(rt).is_over()
 }
 
 // Tells the other workers where a machine that is not in the table has come to its end.
@@ -205,14 +234,12 @@ fn go_on<E, M: Machine<E>, R: Wait>(
     unreachable!()
 }
 
-// Counts one move more of a machine, and so many together as a change. Answers how many of them are
-// not counted as one.
-fn one_more(changes: &EventCount, moves: u32) -> u32
-    requires { moves < 64 }
-    ensures { result < 64 }
-{
-    if moves + 1 < MOVES {
-        return moves + 1;
+// Counts one move more of a machine, and so many together as a change, for the machines that wait for
+// it. Answers how many of them are not counted as one.
+fn one_more(changes: &EventCount, moves: u32) -> u32 {
+    let moves = moves.saturating_add(1);
+    if moves < changes.moves() {
+        return moves;
     }
     changes.advance();
     0

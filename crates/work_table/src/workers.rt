@@ -7,7 +7,7 @@ use crate::idler::Idler;
 use crate::machine::Machine;
 use crate::steps::step_all;
 use crate::table::{Playing, Status, Table};
-use crate::worker::{Worker, work, work_beside};
+use crate::worker::{Worker, work, work_alone, work_beside};
 use std::alloc::{AllocError, Global};
 use std::marker::Brand;
 use std::mem::ManuallyDrop;
@@ -18,6 +18,13 @@ use std::thread::Threads;
 
 /// Where each machine has a worker, that one looks so often again before it brings it back.
 const LOOKS_AGAIN: u32 = 256;
+
+/// A machine that goes on for long counts a change after so many steps, for the machines that wait
+/// for it.
+const MOVES: u32 = 64;
+
+/// The same where one thread has a machine of its own: each change may wake that thread.
+const MOVES_BESIDE: u32 = 96;
 
 /// Steps the machines on so many threads, or as many as there are machines, until all have finished
 /// or one finds no memory. All machines come back, each at its place.
@@ -35,8 +42,10 @@ pub fn step_together<R: Threads + Wait + Sync, E: Sync, M: Machine<E> + Send>(
 {
     let count = machines.len().min(threads as usize).max(1);
     let blank = Blank::new(count as u64);
-    let looks = looks_for(count, machines.len());
-    step_as::<Brand, R, E, Idler, M>(rt, alloc, shared, &mut Idler, machines, blank, count, looks)
+    let changes = EventCount::new(looks_for(count, machines.len()), MOVES);
+    step_as::<Brand, R, E, Idler, M>(
+        rt, alloc, shared, &mut Idler, machines, blank, count, changes,
+    )
 }
 
 /// The same, and this thread steps `own` too, which no other does.
@@ -62,7 +71,8 @@ pub fn step_beside<R: Threads + Wait + Sync, E: Sync, O: Machine<E>, M: Machine<
         .min(threads as usize)
         .max(1);
     let blank = Blank::new(count as u64);
-    step_as::<Brand, R, E, O, M>(rt, alloc, shared, own, machines, blank, count, 0)
+    let changes = EventCount::new(0, MOVES_BESIDE);
+    step_as::<Brand, R, E, O, M>(rt, alloc, shared, own, machines, blank, count, changes)
 }
 
 // Steps the machines of this play on workers, and then by itself each that has not finished.
@@ -80,7 +90,7 @@ fn step_as<
     machines: Vec<M>,
     blank: Blank,
     worker_count: usize,
-    looks: u32,
+    changes: EventCount,
 ) -> (Vec<M>, Result<(), AllocError>)
     requires name { blank.name ≡ T.name }
     requires parts { (blank.parts ≡ T.parts) × (T.parts ≡ worker_count) }
@@ -108,7 +118,6 @@ fn step_as<
     let (book, all) = blank.open::<T>();
     let (others, share) = hired(workers, all, worker_count - 1);
     let (table, machines) = Table::<M, T>::of(machines, places, statuses, book);
-    let changes = EventCount::new(looks);
     let (table, all) = at_work(rt, shared, own, table, &changes, others, Worker { share });
     let failed = table.has_failed();
     let mut machines = table.into_machines(machines, all);
@@ -166,6 +175,7 @@ fn at_work<
         O.comes shared.now first own.old → O.comes shared.now first own.new }
     ensures share { (result.1.parts ≡ vec_len others + 1) × (result.1.amount ≡ 0) }
 {
+    let alone = table.count() <= others.len();
     let lock = lock_of(table);
     if others.is_empty() {
         work_beside(rt, shared, own, &lock, changes, &mut mine);
@@ -178,6 +188,7 @@ fn at_work<
             changes,
             &mut mine,
             others.as_mut_slice(),
+            alone,
         );
     }
     let Worker { share } = mine;
@@ -185,7 +196,8 @@ fn at_work<
     (ManuallyDrop::into_inner(lock.into_inner()), all)
 }
 
-// This worker at work on this thread, beside its own machine, and the others on others.
+// This worker at work on this thread, beside its own machine or at that alone, and the others on
+// others.
 fn work_with<
     'a,
     T: Playing<M> + Send + Sync,
@@ -201,6 +213,7 @@ fn work_with<
     changes: &'a EventCount,
     mine: &'a mut Worker<T>,
     others: &'a mut [Worker<T>],
+    alone: bool,
 )
     requires relation { IsSameRelation T.comes (M.comes shared.now) }
     requires own { (first : O) × O.comes shared.now first own.old }
@@ -216,8 +229,30 @@ fn work_with<
         ensures { (first : O) →
             O.comes shared.entry.now first own.entry.now →
             O.comes shared.entry.now first own.exit.now }
-    { work_beside(rt, shared, own, lock, changes, mine) };
+    { step_own(rt, shared, own, lock, changes, mine, alone) };
     thread::join_mut(rt, &mut helping, &mut working);
+}
+
+// This worker at work, at its own machine alone or beside it.
+fn step_own<E, O: Machine<E>, M: Machine<E>, T: Playing<M>, R: Wait>(
+    rt: &R,
+    shared: &E,
+    own: &mut O,
+    lock: &Mutex<ManuallyDrop<Table<M, T>>>,
+    changes: &EventCount,
+    mine: &mut Worker<T>,
+    alone: bool,
+)
+    requires relation { IsSameRelation T.comes (M.comes shared.now) }
+    requires own { (first : O) × O.comes shared.now first own.old }
+    ensures { (first : O) →
+        O.comes shared.now first own.old → O.comes shared.now first own.new }
+{
+    if alone {
+        work_alone(rt, shared, own, lock, changes);
+    } else {
+        work_beside(rt, shared, own, lock, changes, mine);
+    }
 }
 
 // These workers at work, each on a thread.

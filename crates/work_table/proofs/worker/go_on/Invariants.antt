@@ -1,4 +1,3 @@
-use Rattle.std.proofs.Common.{◌<◌}
 use Rattle.work_table.proofs.worker.go_on.Given as goal
 
 abbrev pub invariant-loop : goal.invariant-loop
@@ -6,4 +5,3 @@ invariant-loop g l =
     (goal.iterator-loop g).can_next l.iterator' × (goal.iterator-loop g).is_finite l.iterator'
     × ((first : g.row.M.Denot)
     → g.M.Machine.comes l.shared first l.initial.machine → g.M.Machine.comes l.shared first l.machine)
-    × (l.moves < 64)
