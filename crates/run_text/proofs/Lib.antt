@@ -1,8 +1,12 @@
 pub mod DidLemmas
+pub mod EndLemmas
 pub mod FillLemmas
 pub mod KnownLemmas
+pub mod LeakLemmas
 pub mod LineLemmas
 pub mod MakeLemmas
 pub mod NoteLemmas
+pub mod PlaceLemmas
+pub mod ReplyLemmas
 pub mod TellLemmas
 pub mod WordLemmas

@@ -41,13 +41,13 @@ lacks_at mark text h i low =
     eqb-false (get_or text i 0) mark (not-true _ (AllPass-from_list_all (λ b. not (b == mark)) text h i 0 low))
 
 -- two texts that lack a mark lack it one behind the other
-lacks-append : (mark : ℕ) (a b : Text) → lacks mark a ≡ true → lacks mark b ≡ true → lacks mark (a ++ b) ≡ true
+pub lacks-append : (mark : ℕ) (a b : Text) → lacks mark a ≡ true → lacks mark b ≡ true → lacks mark (a ++ b) ≡ true
 lacks-append mark a b h k =
     list_all-append (λ x. not (x == mark)) a b
     ∙ ap (λ (t : Bool). t && lacks mark b) h
     ∙ k
 
-lacks-cons : (mark x : ℕ) (b : Text) → x ≢ mark → lacks mark b ≡ true → lacks mark (x ∷ b) ≡ true
+pub lacks-cons : (mark x : ℕ) (b : Text) → x ≢ mark → lacks mark b ≡ true → lacks mark (x ∷ b) ≡ true
 lacks-cons mark x b apart k = ap (λ (t : Bool). not t && lacks mark b) (ne_eqb x mark apart) ∙ k
 
 -- ---- Where a text is cut at its first mark.

@@ -1,3 +1,5 @@
+pub mod Answering
+pub mod Ending
 pub mod Knowing
 pub mod Lines
 pub mod Reading

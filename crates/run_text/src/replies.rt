@@ -1,5 +1,12 @@
 //! The lines of replies.
 
+ghost use Rattle.std.specs.Prelude.{◌≡◌, ◌≢◌, ◌+◌, ◌++◌, ◌∷◌, ◌<◌, ◌^◌, [], ℕ, Ok, List, MatchResult, codes, length, map};
+ghost use Rattle.pool_law.specs.Text.{Text, reply_words, spaced};
+ghost use Rattle.pool_law.specs.declared.run.Reply.{Reply};
+ghost use Rattle.run_text.specs.Answering.{FitLanes, FitReplies, FitsReply, lanes_texts, reply_texts};
+ghost use Rattle.run_text.specs.Reading.{Gives};
+ghost use Rattle.run_text.specs.declared.TextNo.TheVariants.{Memory};
+
 use crate::lines::words_behind;
 use crate::words::Words;
 use crate::{LineNo, TextNo};
@@ -11,7 +18,13 @@ pub fn replies_of(
     alloc: Global,
     lanes: &[CommandList],
     lines: &[&str],
-) -> Result<(Vec<Vec<Reply>>, usize), TextNo> {
+) -> Result<(Vec<Vec<Reply>>, usize), TextNo>
+    ensures { (all : List (List Reply)) (back : List Text) → FitLanes lanes.now all
+        → map (λ l. l.now) lines.now ≡ lanes_texts 0 lanes.now all ++ back
+        → MatchResult result
+        (λ got. (map (λ list. list.items) got.0.items ≡ all)
+        × (got.1 ≡ length (lanes_texts 0 lanes.now all))) (λ no. no ≡ Memory) }
+{
     let mut all = Vec::new(alloc);
     let mut at = 0;
     for lane in lanes {
@@ -28,7 +41,14 @@ fn lane_replies(
     commands: &[Command],
     lines: &[&str],
     from: usize,
-) -> Result<(Vec<Reply>, usize), TextNo> {
+) -> Result<(Vec<Reply>, usize), TextNo>
+    ensures { (lane : ℕ) (replies : List Reply) (front back : List Text)
+        → lane < 2 ^ 64 → FitReplies commands.now replies
+        → map (λ l. l.now) lines.now ≡ front ++ (reply_texts lane 0 commands.now replies ++ back)
+        → length front ≡ from
+        → MatchResult result
+        (λ got. (got.0.items ≡ replies) × (got.1 ≡ from + length replies)) (λ no. no ≡ Memory) }
+{
     let mut replies = Vec::new(alloc);
     let mut at = from;
     for command in commands {
@@ -43,7 +63,11 @@ fn lane_replies(
 }
 
 // The reply to a command.
-fn reply_of(alloc: Global, command: &Command, words: &mut Words) -> Result<Reply, TextNo> {
+fn reply_of(alloc: Global, command: &Command, words: &mut Words) -> Result<Reply, TextNo>
+    ensures { (reply : Reply) (more : List Text) → FitsReply command.now reply
+        → words.old.rest.now ≡ spaced (reply_words reply ++ more)
+        → Gives result words.new.rest.now reply more }
+{
     let word = words.next();
     if word == "ok" {
         done(alloc, command, words)
@@ -59,7 +83,11 @@ fn reply_of(alloc: Global, command: &Command, words: &mut Words) -> Result<Reply
 }
 
 // The reply that a command is done, with what it tells.
-fn done(alloc: Global, command: &Command, words: &mut Words) -> Result<Reply, TextNo> {
+fn done(alloc: Global, command: &Command, words: &mut Words) -> Result<Reply, TextNo>
+    ensures { (reply : Reply) (told more : List Text) → FitsReply command.now reply
+        → reply_words reply ≡ codes "ok" ∷ told → words.old.rest.now ≡ spaced (told ++ more)
+        → Gives result words.new.rest.now reply more }
+{
     match command {
         Command::Alloc { .. } => {
             let size = words.small()?;
@@ -76,7 +104,10 @@ fn done(alloc: Global, command: &Command, words: &mut Words) -> Result<Reply, Te
 }
 
 // The reply that a command is refused by this word.
-fn refusal(words: &Words, word: &str) -> Result<Reply, TextNo> {
+fn refusal(words: &Words, word: &str) -> Result<Reply, TextNo>
+    ensures { (reply : Reply) → reply_words reply ≡ word.now ∷ [] → word.now ≢ codes "ok"
+        → word.now ≢ codes "kept" → word.now ≢ codes "freed" → result ≡ Ok reply }
+{
     if word == "unbound" {
         Ok(Reply::Unbound)
     } else if word == "taken" {
