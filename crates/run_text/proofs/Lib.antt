@@ -4,6 +4,7 @@ pub mod FillLemmas
 pub mod KnownLemmas
 pub mod LeakLemmas
 pub mod LineLemmas
+pub mod MakeLemmas
 pub mod NoteLemmas
 pub mod PlaceLemmas
 pub mod ReplyLemmas

@@ -1,6 +1,7 @@
 -- How the program knows what lines say of roots and regions. No public clause cites this module.
-use Rattle.std.specs.Prelude.{◌≡◌, ℕ, ◌<◌, ◌^◌, Bool, true, false, List, ◌∷◌, Option, Some, None, codes, decimal}
+use Rattle.std.specs.Prelude.{◌≡◌, ℕ, ◌<◌, ◌^◌, Bool, true, false, if◌then◌else◌, nat_eq, List, [], ◌∷◌, length, map, slice_get, Option, Some, None, Vec, codes, decimal}
 use Rattle.std.specs.Option.{MatchOption, option_map}
+use Rattle.std.specs.declared.alloc.Global.{Global}
 use Rattle.std.specs.declared.cmp.Ordering.{Ordering}
 use Rattle.std.specs.Ordering.{nat_cmp, ordering_then}
 use Rattle.std.specs.BTreeMap as tree
@@ -17,6 +18,7 @@ use Rattle.run_text.specs.Told.{FitsNote, note_told, use_told}
 use Rattle.run_text.specs.declared.known.Known.{Known}
 use Rattle.run_text.specs.declared.known.Use.{Use}
 use Rattle.run_text.specs.declared.filling.Filler.{Filler}
+use Rattle.run_text.specs.declared.making.Making.{Making}
 
 -- the order of two keys
 abbrev pub key_cmp : ℕ × ℕ → ℕ × ℕ → Ordering
@@ -140,3 +142,21 @@ line_text line = spaced (codes "note" ∷ decimal line.0 ∷ note_words line.1)
 -- the numbers that are told are of their types
 abbrev pub FitsLine : Line → Type 0
 FitsLine line = (line.0 < 2 ^ 32) × FitsNote line.1
+
+-- ---- Which notes are whose.
+
+-- the notes of these lines that a lane made
+abbrev pub made_by : ℕ → List Line → List Note
+made_by lane [] = []
+made_by lane (line ∷ lines) =
+    if nat_eq line.0 lane then line.1 ∷ made_by lane lines else made_by lane lines
+
+-- the notes of each log
+abbrev pub notes_in : List (Vec Note Global) → List (List Note)
+notes_in logs = map (λ log. log.items) logs
+
+-- the notes of the lines before are made, each in its lane, of so many arenas and lanes
+pub record AreMade (arenas lanes : ℕ) (all before : List Line) (making : Making) : Type 0 where
+  pub filler : IsAt arenas all before making.filler
+  pub count : length making.logs.items ≡ lanes
+  pub logs : (lane : ℕ) → lane < lanes → slice_get (notes_in making.logs.items) lane ≡ Some (made_by lane before)

@@ -1,6 +1,6 @@
 -- What lines say of roots and regions: of each, the last line that says anything of it. No public clause cites
 -- this module.
-use Rattle.std.specs.Prelude.{◌≡◌, ℕ, zero, suc, ◌<◌, ◌%◌, ◌&&◌, nat_eq, Bool, if◌then◌else◌, List, [], ◌∷◌, ◌++◌, Option, Some, None, option_and_then, unwrap_or}
+use Rattle.std.specs.Prelude.{◌≡◌, ℕ, zero, suc, ◌<◌, ◌%◌, ◌&&◌, nat_eq, Bool, if◌then◌else◌, List, [], ◌∷◌, ◌++◌, ◌+◌, map, Option, Some, None, option_and_then, unwrap_or}
 use Rattle.std.specs.Option.{option_map, option_or}
 use Rattle.pool_law.specs.declared.id.RegionId.{RegionId}
 use Rattle.pool_law.specs.declared.id.RootId.{RootId}
@@ -14,6 +14,15 @@ use Rattle.size_classes.specs.Sizes.{Geometry, class_count, of_pages, size_at}
 -- a note with its lane
 abbrev pub Line : Type 0
 Line = ℕ × Note
+
+-- the notes of a lane, each with the lane
+abbrev pub of_lane : ℕ → List Note → List Line
+of_lane lane notes = map (λ note. (lane, note)) notes
+
+-- the notes of lanes, from this lane on, one lane behind the other
+abbrev pub told_from : ℕ → List (List Note) → List Line
+told_from lane [] = []
+told_from lane (notes ∷ more) = of_lane lane notes ++ told_from (lane + 1) more
 
 -- what the last of the lines says that say anything
 abbrev pub last : {X : Type 0} → (Line → Option X) → List Line → Option X

@@ -22,6 +22,14 @@ pub fn number_behind(count: usize) -> u32 {
     u32::try_from(count.saturating_add(1)).unwrap_or(u32::MAX)
 }
 
+/// The refusal of the line behind so many.
+pub fn refusal_of(count: usize, why: LineNo) -> TextNo {
+    TextNo::Line {
+        number: number_behind(count),
+        why,
+    }
+}
+
 /// The words of the line behind so many.
 pub fn words_behind<'a>(lines: &[&'a str], count: usize) -> Result<Words<'a>, TextNo>
     ensures { (text : Text) → slice_get (map (λ l. l.now) lines.now) count ≡ Some text
@@ -30,10 +38,7 @@ pub fn words_behind<'a>(lines: &[&'a str], count: usize) -> Result<Words<'a>, Te
     let number = number_behind(count);
     match lines.get(count) {
         Some(line) => Ok(Words::of(*line, number)),
-        None => Err(TextNo::Line {
-            number,
-            why: LineNo::Form,
-        }),
+        None => Err(refusal_of(count, LineNo::Form)),
     }
 }
 

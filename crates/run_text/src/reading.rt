@@ -1,17 +1,18 @@
 //! From a text to its run.
 
-ghost use Rattle.std.specs.Prelude.{◌≡◌, ◌+◌, ◌++◌, length, map, List, IsTrue, IfOk, MatchResult};
+ghost use Rattle.std.specs.Prelude.{◌≡◌, ◌≢◌, ◌+◌, ◌++◌, ◌<◌, [], length, map, List, IsTrue, IfOk, MatchResult};
 ghost use Rattle.std.specs.List.{All};
 ghost use Rattle.pool_law.specs.Text.{Text};
-ghost use Rattle.run_text.specs.Knowing.{FitsLine, line_text, line_told};
-ghost use Rattle.run_text.specs.Lines.{Line};
+ghost use Rattle.pool_law.specs.declared.note.Note.{Note};
+ghost use Rattle.run_text.specs.Knowing.{FitsLine, line_text, line_told, notes_in};
+ghost use Rattle.run_text.specs.Lines.{AreTold, Line, told_from};
 ghost use Rattle.run_text.specs.Reads.{Reads};
 ghost use Rattle.run_text.specs.declared.TextNo.TheVariants.{Memory};
 
 use crate::cutting::answered_by;
 use crate::ends::{chunks_of, leaks_of};
-use crate::filling::Filler;
-use crate::lines::{end_of, lines_of, number_behind, words_behind};
+use crate::lines::{end_of, lines_of, refusal_of, words_behind};
+use crate::making::Making;
 use crate::notes::note_line;
 use crate::replies::replies_of;
 use crate::{LineNo, TextNo};
@@ -63,14 +64,6 @@ pub fn read_run(alloc: Global, trace: Trace, shape: Shape, text: &str) -> Result
     Ok(run)
 }
 
-// The refusal of the line behind so many.
-fn refusal_of(count: usize, why: LineNo) -> TextNo {
-    TextNo::Line {
-        number: number_behind(count),
-        why,
-    }
-}
-
 // What a text tells.
 fn told_by(
     alloc: Global,
@@ -99,28 +92,22 @@ fn notes_of(
     lines: &[&str],
     from: usize,
     to: usize,
-) -> Result<Vec<Vec<Note>>, TextNo> {
+) -> Result<Vec<Vec<Note>>, TextNo>
+    ensures { (front back : List Text) (logs : List (List Note))
+        → map (λ l. l.now) lines.now ≡ front ++ (map line_text (told_from 0 logs) ++ back)
+        → length front ≡ from → from + length (told_from 0 logs) ≡ to
+        → All FitsLine (told_from 0 logs)
+        → AreTold arenas (told_from 0 logs) [] (told_from 0 logs) → 0 < arenas
+        → length logs ≡ lanes → All (λ log. log ≢ []) logs
+        → MatchResult result (λ all. notes_in all.items ≡ logs) (λ no. no ≡ Memory) }
+{
     let told = told_in(alloc, lines, from, to)?;
-    let mut filler = Filler::told_by(alloc, arenas, &told)?;
-    let mut all = no_notes(alloc, lanes)?;
-    let mut at = from;
-    for (lane, note) in told {
-        let note = match filler.note(lane, note) {
-            Ok(note) => note,
-            Err(why) => return Err(refusal_of(at, why)),
-        };
-        filler.pass(&note)?;
-        match all.get_mut(lane as usize) {
-            Some(log) => log.push(note).map_err(AllocError::from)?,
-            None => return Err(refusal_of(at, LineNo::Form)),
-        }
-        at = at.saturating_add(1);
-    }
+    let making = Making::of(alloc, lanes, arenas, told, from)?;
     // Each lane closes its caches, so each has notes.
-    if all.iter().any(|log| log.is_empty()) {
-        return Err(refusal_of(to, LineNo::Form));
+    match making.whole() {
+        Some(notes) => Ok(notes),
+        None => Err(refusal_of(to, LineNo::Form)),
     }
-    Ok(all)
 }
 
 // What the lines from one to another tell of notes, each with its lane.
@@ -142,15 +129,6 @@ fn told_in(
         told.push(note).map_err(AllocError::from)?;
     }
     Ok(told)
-}
-
-// No notes, for so many lanes.
-fn no_notes(alloc: Global, lanes: usize) -> Result<Vec<Vec<Note>>, AllocError> {
-    let mut all = Vec::new(alloc);
-    for _ in 0..lanes {
-        all.push(Vec::new(alloc))?;
-    }
-    Ok(all)
 }
 
 // The logs of the lanes.
