@@ -34,9 +34,9 @@ fn keep_pages(alloc: Global) {
 
 // So many lists, each with so much room.
 fn reserved(alloc: Global, count: usize, room: usize) -> Result<Vec<Vec<u8>>, AllocError> {
-    let mut lists = Vec::with_capacity(alloc, count)?;
+    let mut lists = Vec::new(alloc);
     for _ in 0..count {
-        lists.push_reserved(Vec::with_capacity(alloc, room)?);
+        lists.push(Vec::with_capacity(alloc, room)?)?;
     }
     Ok(lists)
 }
