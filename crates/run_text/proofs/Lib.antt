@@ -9,4 +9,5 @@ pub mod NoteLemmas
 pub mod PlaceLemmas
 pub mod ReplyLemmas
 pub mod TellLemmas
+pub mod TextLemmas
 pub mod WordLemmas

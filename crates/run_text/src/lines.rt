@@ -2,9 +2,8 @@
 
 ghost use Rattle.std.specs.Prelude.{◌≡◌, ◌+◌, ◌++◌, length, map, List, slice_get, IfOk, MatchResult, Some};
 ghost use Rattle.std.specs.List.{All};
-ghost use Rattle.std.specs.Str.Lines.{lines};
 ghost use Rattle.pool_law.specs.Text.{Text};
-ghost use Rattle.run_text.specs.Starting.{Begins, BeginsNot};
+ghost use Rattle.run_text.specs.Starting.{AreShown, Begins, BeginsNot, unlines};
 
 use crate::words::Words;
 use crate::{LineNo, TextNo};
@@ -12,7 +11,8 @@ use std::alloc::{AllocError, Global};
 
 /// The lines of a text, in order.
 pub fn lines_of(alloc: Global, text: &str) -> Result<Vec<&str>, AllocError>
-    ensures { IfOk result (λ list. map (λ l. l.now) list.items ≡ lines text.now) }
+    ensures { (texts : List Text) → AreShown texts → text.now ≡ unlines texts
+        → IfOk result (λ list. map (λ l. l.now) list.items ≡ texts) }
 {
     text.lines().collect(alloc)
 }
