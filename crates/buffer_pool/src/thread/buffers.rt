@@ -23,6 +23,7 @@ use crate::name::PoolName;
 use crate::pool::Pool;
 use crate::thread::PoolThread;
 use byte_view::View;
+use pool_law::RootId;
 use pool_member::work::allocation::allocate;
 use pool_member::work::counting;
 use pool_member::{AccessNo, AllocNo};
@@ -76,11 +77,24 @@ impl<B: PoolName> PoolThread<B> {
             return Err(AllocNo::Spent);
         }
         match allocate(rt, &pool.shared, &mut self.member, size, class) {
-            Ok(root) => Ok(Buffer {
-                view: View::of_root(root),
-                thread: self.member.account.lane,
-                of: PhantomData,
-            }),
+            Ok(root) => {
+                // By its parts, so that it stays in registers.
+                let RootId {
+                    place,
+                    generation,
+                    capacity,
+                } = root;
+                let parts = RootId {
+                    place,
+                    generation,
+                    capacity,
+                };
+                Ok(Buffer {
+                    view: View::of_root(parts),
+                    thread: self.member.account.lane,
+                    of: PhantomData,
+                })
+            }
             Err(no) => Err(alloc_no(no)),
         }
     }
