@@ -1,11 +1,12 @@
 -- What the slots of a history hold: of each number the first note that has it.
-use Rattle.std.proofs.Common.{◌≡◌, ℕ, zero, suc, ◌+◌, ◌-◌, ◌<◌, ◌≤◌, set, Bool, true, false, ◌==◌, List, [], ◌∷◌, length, replicate, refl, sym, ap, ◌∙◌, arith, ne_eqb}
-use Rattle.std.proofs.lemmas.List.{length-replicate}
+use Rattle.std.proofs.Common.{◌≡◌, ℕ, zero, suc, ◌+◌, ◌-◌, ◌<◌, ◌≤◌, set, Bool, true, false, ◌==◌, List, [], ◌∷◌, ◌++◌, length, map, drop, get_or, replicate, refl, sym, ap, ◌∙◌, arith, ne_eqb, append_assoc}
+use Rattle.std.proofs.lemmas.List.{length-replicate, replicate-append-replicate, at_drop_more}
 use Rattle.std.proofs.lemmas.Bool.Decides.{nat_tests}
 use Rattle.std.specs.Prelude.{if◌then◌else◌, not, slice_get, Option, Some, None, option_map, unwrap_or}
 use Rattle.std.specs.Option.{is_some}
 use Rattle.pool_law.specs.declared.note.Did.{Did}
 use Rattle.pool_law.specs.declared.note.Object.{Object}
+use Rattle.pool_law.specs.declared.run.LaneLog.{LaneLog}
 use Rattle.pool_law.specs.Arenas.{or_else}
 use Rattle.pool_law.specs.Logs.{Logs, own, with_number, entry_at, notes_at, extended, history_from, history_of}
 use Rattle.run_picture.specs.declared.history.Done.{Done}
@@ -135,23 +136,41 @@ replicate-get (suc n) zero less = refl
 replicate-get (suc n) (suc k) less = replicate-get n k (omega (arith, less))
 
 -- empty slots for all notes, and the notes of all lanes put into them
-pub history-is : (object : Object) (logs : Logs) (count : ℕ) → count ≡ notes_at object logs →
-    present (all_entered object 0 (replicate count None) logs) ≡ history_of object logs
-history-is object logs count is =
+pub history-is : (object : Object) (logs : Logs) →
+    present (all_entered object 0 (replicate (notes_at object logs) None) logs) ≡ history_of object logs
+history-is object logs =
+    let count : ℕ = notes_at object logs in
     let s : Slots = all_entered object 0 (replicate count None) logs in
     let long : length s ≡ count = length-all object 0 (replicate count None) logs ∙ length-replicate count None in
-    present-is object logs s 1 (each s long refl)
-    ∙ ap (λ n. history_from object logs 1 n) (long ∙ is)
+    present-is object logs s 1 (each count s long refl)
+    ∙ ap (λ n. history_from object logs 1 n) long
   where
-    each : (s : Slots) → length s ≡ count → s ≡ all_entered object 0 (replicate count None) logs →
+    each : (count : ℕ) (s : Slots) → length s ≡ count → s ≡ all_entered object 0 (replicate count None) logs →
         (k : ℕ) → k < length s → slice_get s k ≡ Some (entry_at object (1 + k) 0 logs)
-    each s long same k less =
+    each count s long same k less =
         let number : k + 1 ≡ 1 + k = omega arith in
         ap (λ t. slice_get t k) same
         ∙ all-get object 0 (replicate count None) logs k None (replicate-get count k (omega (arith, less, long)))
         ∙ ap (λ m. Some (entry_at object m 0 logs)) number
 
 -- ---- Slots as the program has them.
+
+-- the empty slots of one log more
+pub slots-more : (object : Object) (logs : List LaneLog) (at : ℕ) (log : LaneLog) (old new : Slots) →
+    at < length logs → log ≡ get_or logs at log → new ≡ old ++ replicate (length (own object log.notes)) None →
+    new ++ replicate (notes_at object (map (λ x. x.notes) (drop (at + 1) logs))) None
+    ≡ old ++ replicate (notes_at object (map (λ x. x.notes) (drop at logs))) None
+slots-more object logs at log old new there is more =
+    let empty : ℕ → Slots = λ n. replicate n None in
+    let here : ℕ = length (own object log.notes) in
+    let rest : List LaneLog = drop (at + 1) logs in
+    let left : ℕ = notes_at object (map (λ x. x.notes) rest) in
+    ap (λ (s : Slots). s ++ empty left) more
+    ∙ append_assoc old (empty here) (empty left)
+    ∙ ap (λ (s : Slots). old ++ s) (replicate-append-replicate here left None)
+    ∙ ap (λ (l : LaneLog). old ++ empty (notes_at object (map (λ x. x.notes) (l ∷ rest)))) is
+    ∙ sym (at_drop_more (λ (ls : List LaneLog). old ++ empty (notes_at object (map (λ x. x.notes) ls))) logs at log
+    there)
 
 pub put_at-empty : (slots : List (Option Done)) (k : ℕ) (d : Done) → slice_get slots k ≡ Some None →
     slots_in (set slots k (Some d)) ≡ put_at (slots_in slots) k (done_in d)

@@ -7,11 +7,11 @@ use crate::placing::share;
 use std::alloc::AllocError;
 
 // How many labels an axis has at most.
-const LABELS: u32 = 20;
+const LABELS: u64 = 20;
 
 /// A step between labels that leaves at most so many: 1, 2 or 5 times a power of 10.
-pub fn step_of(count: u32, most: u32) -> u32 {
-    let mut power: u32 = 1;
+pub fn step_of(count: u64, most: u64) -> u64 {
+    let mut power: u64 = 1;
     for _digit in 0..10 {
         for times in [1, 2, 5] {
             let step = power.saturating_mul(times);
@@ -21,11 +21,11 @@ pub fn step_of(count: u32, most: u32) -> u32 {
         }
         power = power.saturating_mul(10);
     }
-    u32::MAX
+    u64::MAX
 }
 
 /// The axis of the moments, with a line of the grid at each label from there down to the bottom.
-pub fn moments(pen: &mut Pen, last: u32, y: u32, bottom: u32) -> Result<(), AllocError> {
+pub fn moments(pen: &mut Pen, last: u64, y: u32, bottom: u32) -> Result<(), AllocError> {
     let step = step_of(last, LABELS);
     for tick in 0..LABELS + 1 {
         let moment = tick.saturating_mul(step);
@@ -40,13 +40,13 @@ pub fn moments(pen: &mut Pen, last: u32, y: u32, bottom: u32) -> Result<(), Allo
             height: bottom.saturating_sub(y),
         };
         pen.plain(Style::Grid, area)?;
-        pen.number(Style::Middle, x, y.saturating_sub(30), u64::from(moment))?;
+        pen.number(Style::Middle, x, y.saturating_sub(30), moment)?;
     }
     Ok(())
 }
 
 /// The numbers of an arena's notes, each at its moment, below this height.
-pub fn notes(pen: &mut Pen, moments: &[u32], last: u32, y: u32) -> Result<(), AllocError> {
+pub fn notes(pen: &mut Pen, moments: &[u64], last: u64, y: u32) -> Result<(), AllocError> {
     let mut free = LEFT;
     for at in 0..moments.len() {
         let x = LEFT + share(moments[at], last, WIDTH);

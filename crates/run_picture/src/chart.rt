@@ -9,7 +9,7 @@ pub const LEFT: u32 = 1500;
 pub const WIDTH: u32 = 11_000;
 
 /// Numbers in order.
-pub type Numbers = Items<u32>;
+pub type Numbers = Items<u64>;
 
 /// A byte of a chunk at which something begins or ends, and where it is drawn.
 #[derive(Clone, Copy, Drop)]
@@ -41,7 +41,7 @@ pub struct Chart {
     /// The number of the arena.
     pub arena: u32,
     /// How many moments the picture has.
-    pub last: u32,
+    pub last: u64,
     /// The moment of each note of the arena.
     pub moments: Numbers,
     /// Its chunk places.

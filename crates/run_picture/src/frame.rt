@@ -35,10 +35,10 @@ fn measures(text: &mut Writer, run: &Run) -> Result<(), AllocError> {
 }
 
 // What is left out: what lasted fewer moments than these, and commands that lie too close.
-fn warnings(pen: &mut Pen, run: &Run, least: u32) -> Result<(), AllocError> {
+fn warnings(pen: &mut Pen, run: &Run, least: u64) -> Result<(), AllocError> {
     if least > 0 {
         let mut text = pen.writer();
-        text.named("Thinned: what lasted fewer moments than ", u64::from(least))?;
+        text.named("Thinned: what lasted fewer moments than ", least)?;
         text.words(" is left out")?;
         pen.text(Style::Warning, 7000, 300, text)?;
     }
@@ -55,7 +55,7 @@ fn warnings(pen: &mut Pen, run: &Run, least: u32) -> Result<(), AllocError> {
 }
 
 /// The heading, and what was left out, where those were left out that last fewer moments.
-pub fn heading(pen: &mut Pen, run: &Run, least: u32) -> Result<(), AllocError> {
+pub fn heading(pen: &mut Pen, run: &Run, least: u64) -> Result<(), AllocError> {
     pen.words(Style::Heading, 200, 300, "Who had which bytes, and when")?;
     let mut text = pen.writer();
     measures(&mut text, run)?;

@@ -26,49 +26,42 @@ pub fn history_of<'a>(
     ensures { IfOk result (λ dones. dones_in dones.items
         ≡ history_of (Object.Arena arena) (map (λ l. l.notes) logs.now)) }
 {
-    let count = notes_at(logs, arena)?;
-    let mut slots = empty_slots(alloc, count)?;
+    let mut slots = empty_slots(alloc, logs, arena)?;
     enter_all(&mut slots, logs, arena);
     present(alloc, &slots)
 }
 
-// So many empty slots.
-fn empty_slots<'a>(alloc: Global, count: usize) -> Result<Vec<Option<Done<'a>>>, AllocError>
-    ensures { IfOk result (λ slots. slots_in slots.items ≡ replicate count None) }
+// An empty slot for each note that the logs have at an arena.
+fn empty_slots<'a>(
+    alloc: Global,
+    logs: &[LaneLog],
+    arena: u32,
+) -> Result<Vec<Option<Done<'a>>>, AllocError>
+    ensures { IfOk result (λ slots. slots_in slots.items
+        ≡ replicate (notes_at (Object.Arena arena) (map (λ l. l.notes) logs.now)) None) }
 {
     let mut slots = Vec::new(alloc);
-    for _number in 0..count {
-        slots.push(None)?;
+    for log in logs {
+        add_slots(&mut slots, log.notes.items(), arena)?;
     }
     Ok(slots)
 }
 
-// How many notes the logs have at an arena. A number that 64 bits cannot hold is want of memory.
-fn notes_at(logs: &[LaneLog], arena: u32) -> Result<usize, AllocError>
-    ensures { IfOk result (λ count. count
-        ≡ notes_at (Object.Arena arena) (map (λ l. l.notes) logs.now)) }
+// One more for each note that a log has.
+fn add_slots<'a>(
+    slots: &mut Vec<Option<Done<'a>>>,
+    notes: &[Note],
+    arena: u32,
+) -> Result<(), AllocError>
+    ensures { OnOk result (slots_in slots.new.items ≡ slots_in slots.old.items
+        ++ replicate (length (own (Object.Arena arena) notes.now)) None) }
 {
-    let mut count: usize = 0;
-    for log in logs {
-        let Some(more) = count.checked_add(own_count(log.notes.items(), arena)) else {
-            return Err(AllocError);
-        };
-        count = more;
-    }
-    Ok(count)
-}
-
-// How many notes a log has at an arena.
-fn own_count(notes: &[Note], arena: u32) -> usize
-    ensures { result ≡ length (own (Object.Arena arena) notes.now) }
-{
-    let mut count = 0;
     for note in notes {
         if own_note(note, arena).is_some() {
-            count += 1;
+            slots.push(None)?;
         }
     }
-    count
+    Ok(())
 }
 
 // The number of a note at an arena, and what was done.

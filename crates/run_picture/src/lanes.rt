@@ -20,7 +20,7 @@ const LEAST: u32 = 12;
 const LETTER: u32 = 62;
 
 /// The moment of each note of a lane, and of the end behind them.
-pub fn moments_of(alloc: Global, order: &Order, lane: u32) -> Result<Vec<u32>, AllocError> {
+pub fn moments_of(alloc: Global, order: &Order, lane: u32) -> Result<Vec<u64>, AllocError> {
     let mut moments = Vec::new(alloc);
     for step in &order.steps {
         if step.lane == lane {
@@ -90,9 +90,9 @@ pub struct Track<'a> {
     /// What it answered and noted.
     pub log: &'a LaneLog,
     /// The moment of each of its notes.
-    pub moments: &'a [u32],
+    pub moments: &'a [u64],
     /// How many moments the picture has.
-    pub last: u32,
+    pub last: u64,
     /// The upper edge.
     pub y: u32,
     /// Of so many tenths of a pixel one command is drawn, where they are many.
@@ -100,7 +100,7 @@ pub struct Track<'a> {
 }
 
 impl Track<'_> {
-    fn x_of(&self, moment: u32) -> u32 {
+    fn x_of(&self, moment: u64) -> u32 {
         LEFT + share(moment, self.last, WIDTH)
     }
 

@@ -9,7 +9,7 @@ use std::collections::BTreeMap;
 #[derive(Clone, Copy, Drop)]
 pub struct Step {
     pub lane: u32,
-    pub moment: u32,
+    pub moment: u64,
 }
 
 /// All notes of some logs, in one order: each lane's in its own, and each object's by number, a fetch
@@ -19,7 +19,7 @@ pub struct Order {
     /// The notes.
     pub steps: Vec<Step>,
     /// How many moments there are.
-    pub moments: u32,
+    pub moments: u64,
 }
 
 // What the notes so far say of objects.

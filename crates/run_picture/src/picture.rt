@@ -1,6 +1,6 @@
 //! The picture of a run.
 
-ghost use Rattle.std.specs.Prelude.{◌≡◌, ◌++◌, ◌≤◌, ◌^◌, IfOk, OnOk};
+ghost use Rattle.std.specs.Prelude.{◌≡◌, ◌++◌, ◌≤◌, ◌^◌, ◌↔◌, IsTrue, IfOk, OnOk};
 ghost use Rattle.pool_law.specs.Limits.{IsShape, geometry_of};
 ghost use Rattle.run_picture.specs.Pictures.{Shows};
 ghost use Rattle.run_picture.specs.Plotting.{kept_marks, plot_marks, IsPlot, ArePlots, arenas_in, taking_count, HasBlocks};
@@ -53,7 +53,7 @@ fn arena_moments(
     logs: &[LaneLog],
     order: &Order,
     arena: u32,
-) -> Result<Vec<u32>, AllocError> {
+) -> Result<Vec<u64>, AllocError> {
     let mut moments = Vec::new(alloc);
     let mut next: Vec<usize> = vec![in alloc; 0; logs.len()]?;
     for step in &order.steps {
@@ -171,7 +171,7 @@ fn add_blocks(
     alloc: Global,
     chart: &Chart,
     blocks: &[Block],
-    least: u32,
+    least: u64,
     marks: &mut Vec<Mark>,
 ) -> Result<(), AllocError>
     ensures { OnOk result
@@ -187,7 +187,7 @@ fn add_blocks(
 }
 
 // The takings of the arenas, as marks.
-fn block_layer(alloc: Global, plots: &[Plot], least: u32) -> Result<Marks, AllocError>
+fn block_layer(alloc: Global, plots: &[Plot], least: u64) -> Result<Marks, AllocError>
     ensures { IfOk result (λ marks. marks ≡ plot_marks least plots.now) }
 {
     let mut marks = Vec::new(alloc);
@@ -197,25 +197,25 @@ fn block_layer(alloc: Global, plots: &[Plot], least: u32) -> Result<Marks, Alloc
     Ok(Marks::of(marks))
 }
 
-// How many takings there are. A number that 64 bits cannot hold is want of memory.
-fn taking_count(plots: &[Plot]) -> Result<usize, AllocError>
-    ensures { IfOk result (λ count. count ≡ taking_count plots.now) }
+// Whether there are so few takings that each is drawn.
+fn are_few(plots: &[Plot]) -> bool
+    ensures { IsTrue result ↔ taking_count plots.now ≤ BLOCK_LIMIT }
 {
-    let mut count: usize = 0;
+    let mut room = BLOCK_LIMIT;
     for plot in plots {
-        let Some(more) = count.checked_add(plot.blocks.len()) else {
-            return Err(AllocError);
+        let Some(rest) = room.checked_sub(plot.blocks.len()) else {
+            return false;
         };
-        count = more;
+        room = rest;
     }
-    Ok(count)
+    true
 }
 
 // For how many moments a taking must have been out to be drawn: 0 where all are.
-fn least_of(alloc: Global, plots: &[Plot]) -> Result<u32, AllocError>
+fn least_of(alloc: Global, plots: &[Plot]) -> Result<u64, AllocError>
     ensures { IfOk result (λ least. taking_count plots.now ≤ BLOCK_LIMIT → least ≡ 0) }
 {
-    if taking_count(plots)? <= BLOCK_LIMIT {
+    if are_few(plots) {
         return Ok(0);
     }
     least_for_blocks(alloc, plots)
@@ -227,7 +227,7 @@ fn ground_layer(
     plots: &[Plot],
     spans: &[Span],
     page: u32,
-    least: u32,
+    least: u64,
 ) -> Result<Marks, AllocError> {
     let mut pen = Pen::new(alloc);
     for plot in plots {

@@ -27,15 +27,15 @@ use pool_law::{Bytes, Place, RegionId};
 use std::alloc::{AllocError, Global};
 
 /// What a part of a whole comes to, of something of this size.
-pub fn share(part: u32, whole: u32, size: u32) -> u32
+pub fn share(part: u64, whole: u64, size: u32) -> u32
     ensures share { result ≡ share part whole size }
     ensures within { result ≤ size }
 {
     if whole == 0 {
         return 0;
     }
-    let found = u64::from(part) * u64::from(size) / u64::from(whole);
-    found.min(u64::from(size)) as u32
+    let found = u128::from(part) * u128::from(size) / u128::from(whole);
+    found.min(u128::from(size)) as u32
 }
 
 // Where the last of these cuts at or before a byte is drawn.
@@ -54,14 +54,14 @@ fn y_in(cuts: &[Cut], offset: u64) -> u32
 
 impl Chart {
     /// Where a moment is drawn.
-    pub fn x_of(&self, moment: u32) -> u32
+    pub fn x_of(&self, moment: u64) -> u32
         ensures { result ≡ x_of self.now moment }
     {
         LEFT + share(moment, self.last, WIDTH)
     }
 
     /// The moment of a note; the end of the picture where it has none.
-    pub fn moment_of(&self, number: u64) -> u32
+    pub fn moment_of(&self, number: u64) -> u64
         ensures { result ≡ moment_of self.now number }
     {
         let at = number.saturating_sub(1) as usize;
@@ -69,7 +69,7 @@ impl Chart {
     }
 
     /// The moment at which a taking came back; the end of the picture while it is out.
-    pub fn end_of(&self, block: &Block) -> u32
+    pub fn end_of(&self, block: &Block) -> u64
         ensures { result ≡ end_of self.now block.now }
     {
         match block.back {
@@ -121,7 +121,7 @@ impl Chart {
     }
 
     /// Whether a taking is drawn where those are left out that were out for fewer moments.
-    pub fn is_kept(&self, least: u32, block: &Block) -> bool
+    pub fn is_kept(&self, least: u64, block: &Block) -> bool
         ensures { result ≡ is_kept self.now least block.now }
     {
         match block.back {

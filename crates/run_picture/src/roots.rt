@@ -36,7 +36,7 @@ enum Act {
 #[derive(Clone, Copy, Drop)]
 struct Moment {
     lane: u32,
-    moment: u32,
+    moment: u64,
     act: Act,
 }
 
@@ -166,12 +166,12 @@ fn most_of(acts: &[Moment]) -> u32 {
 }
 
 // Where a moment is drawn.
-fn x_of(moment: u32, last: u32) -> u32 {
+fn x_of(moment: u64, last: u64) -> u32 {
     LEFT + share(moment, last, WIDTH)
 }
 
 // Draws when the root lived.
-fn draw_life(pen: &mut Pen, acts: &[Moment], last: u32, y: u32) -> Result<(), AllocError> {
+fn draw_life(pen: &mut Pen, acts: &[Moment], last: u64, y: u32) -> Result<(), AllocError> {
     let mut from = last;
     let mut until = last;
     for one in acts {
@@ -192,7 +192,7 @@ fn draw_life(pen: &mut Pen, acts: &[Moment], last: u32, y: u32) -> Result<(), Al
 }
 
 // Draws a set, a get or a growth.
-fn draw_act(pen: &mut Pen, one: &Moment, last: u32, y: u32) -> Result<(), AllocError> {
+fn draw_act(pen: &mut Pen, one: &Moment, last: u64, y: u32) -> Result<(), AllocError> {
     let mut title = pen.writer();
     let (style, down, height) = match one.act {
         Act::Sets { offset, len } => {
@@ -222,7 +222,7 @@ fn draw_act(pen: &mut Pen, one: &Moment, last: u32, y: u32) -> Result<(), AllocE
 }
 
 // Draws the count from one act to the next, as a line at its height.
-fn draw_counts(pen: &mut Pen, acts: &[Moment], last: u32, y: u32) -> Result<(), AllocError> {
+fn draw_counts(pen: &mut Pen, acts: &[Moment], last: u64, y: u32) -> Result<(), AllocError> {
     let most = most_of(acts);
     let mut count = 0;
     let mut from = last;
@@ -259,7 +259,7 @@ fn draw_count(
     right: u32,
     y: u32,
 ) -> Result<(), AllocError> {
-    let up = share(count, most, TRACK - 2 * TICK - 40);
+    let up = share(u64::from(count), u64::from(most), TRACK - 2 * TICK - 40);
     let mut title = pen.writer();
     title.named("count ", u64::from(count))?;
     let area = Area {

@@ -13,8 +13,8 @@ use std::alloc::{AllocError, Global};
 pub struct Stay {
     pub chunk: u32,
     pub list: ListName,
-    pub from: u32,
-    pub until: u32,
+    pub from: u64,
+    pub until: u64,
 }
 
 /// A subpage, from one moment to another.
@@ -24,8 +24,8 @@ pub struct Subpage {
     pub page: u32,
     pub pages: u32,
     pub class: u32,
-    pub from: u32,
-    pub until: u32,
+    pub from: u64,
+    pub until: u64,
 }
 
 /// What stood in the chunk places of an arena.
@@ -95,7 +95,7 @@ pub fn first_page(sizes: &Sizes, region: &RegionId, pages: u32) -> u32 {
 
 impl Digging {
     // The stays of chunks end whose list is another now.
-    fn leave(&mut self, ends: &[ChunkEnd], moment: u32) -> Result<(), AllocError> {
+    fn leave(&mut self, ends: &[ChunkEnd], moment: u64) -> Result<(), AllocError> {
         let mut at = 0;
         while at < self.stays.len() {
             let mut stay = self.stays[at];
@@ -120,7 +120,7 @@ impl Digging {
     }
 
     // Stays begin of chunks that have none.
-    fn enter(&mut self, ends: &[ChunkEnd], moment: u32) -> Result<(), AllocError> {
+    fn enter(&mut self, ends: &[ChunkEnd], moment: u64) -> Result<(), AllocError> {
         for end in ends {
             if !self.stays_in(end.chunk) {
                 self.stays.push(Stay {
@@ -135,7 +135,7 @@ impl Digging {
     }
 
     // The subpage that begins at a page of a chunk ends.
-    fn end_subpage(&mut self, chunk: u32, page: u32, moment: u32) -> Result<(), AllocError> {
+    fn end_subpage(&mut self, chunk: u32, page: u32, moment: u64) -> Result<(), AllocError> {
         if let Some(at) = place_of(&self.subpages, chunk, page) {
             let mut subpage = self.subpages.swap_remove(at);
             subpage.until = moment;
@@ -150,7 +150,7 @@ impl Digging {
         sizes: &Sizes,
         region: &RegionId,
         ends: &[ChunkEnd],
-        moment: u32,
+        moment: u64,
     ) -> Result<(), AllocError> {
         if !sizes.is_small(region.class) {
             return Ok(());
@@ -182,7 +182,7 @@ impl Digging {
         sizes: &Sizes,
         did: &Did,
         ends: Vec<ChunkEnd>,
-        moment: u32,
+        moment: u64,
     ) -> Result<(), AllocError> {
         match did {
             Did::Take { class: _, region } => self.change_subpage(sizes, region, &ends, moment)?,
@@ -196,7 +196,7 @@ impl Digging {
     }
 
     // What stands at the end stands until then.
-    fn finish(self, last: u32) -> Result<Ground, AllocError> {
+    fn finish(self, last: u64) -> Result<Ground, AllocError> {
         let Digging {
             mut ground,
             ends: _,
@@ -224,8 +224,8 @@ pub fn ground_of(
     sizes: &Sizes,
     arena: u32,
     dones: &[Done],
-    moments: &[u32],
-    last: u32,
+    moments: &[u64],
+    last: u64,
 ) -> Result<Ground, AllocError>
     requires sizes { sizes.now ≡ geometry_of shape.now }
     requires chunks { shape.now.chunks ≤ 2 ^ 16 }

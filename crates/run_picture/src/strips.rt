@@ -21,7 +21,7 @@ pub fn list_word(list: ListName) -> &'static str {
 }
 
 // The area from a moment to another, and from an edge to another.
-fn area_of(chart: &Chart, from: u32, until: u32, upper: u32, lower: u32) -> Area {
+fn area_of(chart: &Chart, from: u64, until: u64, upper: u32, lower: u32) -> Area {
     let x = chart.x_of(from);
     Area {
         x,
@@ -87,7 +87,7 @@ fn edges_of(chart: &Chart, region: &RegionId) -> (u32, u32) {
 }
 
 /// What the takings of an arena are used for, without what lasts for fewer moments.
-pub fn spans(pen: &mut Pen, chart: &Chart, spans: &[Span], least: u32) -> Result<(), AllocError> {
+pub fn spans(pen: &mut Pen, chart: &Chart, spans: &[Span], least: u64) -> Result<(), AllocError> {
     for span in spans {
         let lasting = span.until.saturating_sub(span.from);
         if span.region.place.arena == chart.arena && lasting >= least {

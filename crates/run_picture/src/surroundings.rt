@@ -36,7 +36,7 @@ pub fn surroundings_of(
     roots: &[RootName],
     order: &Order,
     plots: &[Plot],
-    least: u32,
+    least: u64,
 ) -> Result<Surroundings, AllocError> {
     let mut pen = Pen::new(alloc);
     heading(&mut pen, run, least)?;

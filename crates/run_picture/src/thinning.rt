@@ -11,7 +11,7 @@ pub const BLOCK_LIMIT: usize = 6000;
 pub const SPAN_LIMIT: usize = 7000;
 
 // The least length such that at most so many are as long: 0 where there are no more.
-fn least_of(mut lengths: Vec<u32>, limit: usize) -> Result<u32, AllocError> {
+fn least_of(mut lengths: Vec<u64>, limit: usize) -> Result<u64, AllocError> {
     if lengths.len() <= limit {
         return Ok(0);
     }
@@ -22,7 +22,7 @@ fn least_of(mut lengths: Vec<u32>, limit: usize) -> Result<u32, AllocError> {
 
 /// For how many moments a taking that came back must have been out, that at most `BLOCK_LIMIT` are drawn
 /// beside those that are out at the end.
-pub fn least_for_blocks(alloc: Global, plots: &[Plot]) -> Result<u32, AllocError> {
+pub fn least_for_blocks(alloc: Global, plots: &[Plot]) -> Result<u64, AllocError> {
     let mut lengths = Vec::new(alloc);
     for plot in plots {
         for block in &plot.blocks {
@@ -36,7 +36,7 @@ pub fn least_for_blocks(alloc: Global, plots: &[Plot]) -> Result<u32, AllocError
 }
 
 /// For how many moments a use must last, that at most `SPAN_LIMIT` are drawn.
-pub fn least_for_spans(alloc: Global, spans: &[Span]) -> Result<u32, AllocError> {
+pub fn least_for_spans(alloc: Global, spans: &[Span]) -> Result<u64, AllocError> {
     let mut lengths = Vec::new(alloc);
     for span in spans {
         lengths.push(span.until.saturating_sub(span.from))?;

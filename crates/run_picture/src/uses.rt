@@ -21,8 +21,8 @@ pub enum Phase {
 pub struct Span {
     pub region: RegionId,
     pub phase: Phase,
-    pub from: u32,
-    pub until: u32,
+    pub from: u64,
+    pub until: u64,
 }
 
 // A root that lives, and the region that it is on.
@@ -43,7 +43,7 @@ struct Uses {
 
 impl Uses {
     // A taking is used for this from a moment on.
-    fn change(&mut self, region: RegionId, phase: Phase, moment: u32) -> Result<(), AllocError> {
+    fn change(&mut self, region: RegionId, phase: Phase, moment: u64) -> Result<(), AllocError> {
         self.close(&region, moment)?;
         let span = Span {
             region,
@@ -56,7 +56,7 @@ impl Uses {
     }
 
     // A taking is used for nothing more from a moment on.
-    fn close(&mut self, region: &RegionId, moment: u32) -> Result<(), AllocError> {
+    fn close(&mut self, region: &RegionId, moment: u64) -> Result<(), AllocError> {
         let key = (region.place.arena, region.taking);
         if let Some(mut span) = self.open.remove(&key) {
             span.until = moment;
@@ -66,13 +66,13 @@ impl Uses {
     }
 
     // A root begins to live on a region at a place.
-    fn settle(&mut self, place: u32, living: Living, moment: u32) -> Result<(), AllocError> {
+    fn settle(&mut self, place: u32, living: Living, moment: u64) -> Result<(), AllocError> {
         self.living.insert(place, living)?;
         self.change(living.region, Phase::Rooted(living.root), moment)
     }
 
     // The root that lives at a place, if one does, leaves its region.
-    fn leave(&mut self, place: u32, moment: u32) -> Result<Option<RootId>, AllocError> {
+    fn leave(&mut self, place: u32, moment: u64) -> Result<Option<RootId>, AllocError> {
         let Some(living) = self.living.remove(&place) else {
             return Ok(None);
         };
@@ -81,7 +81,7 @@ impl Uses {
     }
 
     // Goes through a note at the place of a root.
-    fn pass_root(&mut self, place: u32, did: &Did, moment: u32) -> Result<(), AllocError> {
+    fn pass_root(&mut self, place: u32, did: &Did, moment: u64) -> Result<(), AllocError> {
         match did {
             Did::Birth { root, region } => {
                 let (root, region) = (*root, *region);
@@ -107,7 +107,7 @@ impl Uses {
     }
 
     // Goes through a note at another object.
-    fn pass(&mut self, did: &Did, moment: u32) -> Result<(), AllocError> {
+    fn pass(&mut self, did: &Did, moment: u64) -> Result<(), AllocError> {
         match did {
             Did::Take { class: _, region } => self.change(*region, Phase::InHand, moment),
             Did::Kept(region) => self.change(*region, Phase::Cached, moment),
@@ -119,7 +119,7 @@ impl Uses {
     }
 
     // Goes through a note of a lane.
-    fn pass_note(&mut self, note: &Note, moment: u32) -> Result<(), AllocError> {
+    fn pass_note(&mut self, note: &Note, moment: u64) -> Result<(), AllocError> {
         match note {
             Note::At {
                 object: Object::Root(place),

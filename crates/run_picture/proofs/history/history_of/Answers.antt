@@ -15,5 +15,5 @@ returns c =
     ∙ ap present
     (c.enter_all.ensures
     ∙ ap (λ (s : Slots). all_entered (Object.Arena c.args.arena) 0 s logs) c.in_ok-slots.ensures)
-    ∙ history-is (Object.Arena c.args.arena) logs c.in_ok-count.count c.in_ok-count.ensures)
+    ∙ history-is (Object.Arena c.args.arena) logs)
     c.present.ensures
