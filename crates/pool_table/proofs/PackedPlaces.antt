@@ -21,11 +21,11 @@ unpadded s i full le =
     ∙ (ap (λ (w : ℕ). a * 16 + ((i - a) + (i - a) / s.handles * w)) none
     ∙ (let q : ℕ = (i - a) / s.handles in let g : a * 16 + ((i - a) + q * 0) ≡ a * 16 + (i - a) = omega arith in g)))
 
-slot_here : (s : Shape) (p : ℕ) → slot_of s (Root p) ≡ single_of s * 4 + p
+slot_here : (s : Shape) (p : ℕ) → slot_of s (Root p) ≡ single_of s * 8 + p
 slot_here s p =
     let a : ℕ = single_of s in let n : ℕ = slot_at s (a + p) in
-    let e : n ≡ a * 3 + (a + p) = slot_packed s (a + p) (omega arith) in
-    let g : n ≡ a * 4 + p = omega (arith, e) in
+    let e : n ≡ a * 7 + (a + p) = slot_packed s (a + p) (omega arith) in
+    let g : n ≡ a * 8 + p = omega (arith, e) in
     g
 
 word_here : (s : Shape) (p : ℕ) → s.handles % 16 ≡ 0 → word_of s (Root p) ≡ single_of s * 16 + p
@@ -57,7 +57,7 @@ few_places s shape =
     g
 
 pub firsts_are : (s : Shape) → IsTableShape s → (f : Firsts) → f.packed ≤ s.lanes * s.handles
-    → (0 < f.packed → s.handles % 16 ≡ 0) → f.slot ≡ single_of s * 4 → f.word ≡ single_of s * 16
+    → (0 < f.packed → s.handles % 16 ≡ 0) → f.slot ≡ single_of s * 8 → f.word ≡ single_of s * 16
     → f.count ≡ single_of s * 16 + s.lanes * s.handles → AreFirsts s f
 firsts_are s shape f many full slot word count =
     let a : ℕ = single_of s in let z : ℕ = s.lanes * s.handles in let few : a ≤ 1024 = few_single s shape in
@@ -69,7 +69,7 @@ firsts_are s shape f many full slot word count =
       slots = λ p lt. slot_here s p ∙ ap (λ (n : ℕ). n + p) (sym slot);
       words = λ p lt. word_here s p (fills p lt) ∙ ap (λ (n : ℕ). n + p) (sym word);
       counts = λ p lt. count_here s p (fills p lt) ∙ ap (λ (n : ℕ). n + p) (sym count);
-      low_slot = (let m : ℕ = f.slot in let e : m ≡ a * 4 = slot in
+      low_slot = (let m : ℕ = f.slot in let e : m ≡ a * 8 = slot in
           let g : m < 4294967296 = omega (arith, e, few) in g);
       low_word = (let m : ℕ = f.word in let e : m ≡ a * 16 = word in
           let g : m < 4294967296 = omega (arith, e, few) in g);

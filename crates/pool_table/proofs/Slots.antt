@@ -17,17 +17,17 @@ use Rattle.pool_table.specs.Words.{single_of}
 use Rattle.pool_table.specs.Slots.{slot_at, slots_of, slot_of, gap_of, laid_out, IsEmptyBetween}
 
 -- where code lays them
-pub slot_single : (s : Shape) (i : ℕ) → i < single_of s → slot_at s i ≡ i * 4
+pub slot_single : (s : Shape) (i : ℕ) → i < single_of s → slot_at s i ≡ i * 8
 unfolding slot_at
 slot_single s i lt =
     let a : ℕ = single_of s in let t : nat_lt i a ≡ true = lt-ltb i a lt in
-    ap (λ (b : Bool). cond b (i * 4) (a * 3 + i)) t
+    ap (λ (b : Bool). cond b (i * 8) (a * 7 + i)) t
 
-pub slot_packed : (s : Shape) (i : ℕ) → single_of s ≤ i → slot_at s i ≡ single_of s * 3 + i
+pub slot_packed : (s : Shape) (i : ℕ) → single_of s ≤ i → slot_at s i ≡ single_of s * 7 + i
 unfolding slot_at
 slot_packed s i le =
     let a : ℕ = single_of s in let t : nat_lt i a ≡ false = le-ltb i a le in
-    ap (λ (b : Bool). cond b (i * 4) (a * 3 + i)) t
+    ap (λ (b : Bool). cond b (i * 8) (a * 7 + i)) t
 
 -- all objects but root places come first
 pub single_home : (s : Shape) (o : Object) → IsObjectOf s o → ((p : ℕ) → o ≡ Root p → ⊥) → home_of s o < single_of s
@@ -45,19 +45,19 @@ single_home s (Root p) f no_root = absurd (no_root p refl)
 pub first_slot : (s : Shape) → slot_at s 0 ≡ 0
 first_slot s = let a : ℕ = single_of s in let n : ℕ = slot_at s 0 in
     dite (dec_le a 0)
-    (λ le. let e : n ≡ a * 3 + 0 = slot_packed s 0 le in let g : n ≡ 0 = omega (arith, e, le) in g)
-    (λ gt. let e : n ≡ 0 * 4 = slot_single s 0 (lt_of_not-le gt) in let g : n ≡ 0 = omega (arith, e) in g)
+    (λ le. let e : n ≡ a * 7 + 0 = slot_packed s 0 le in let g : n ≡ 0 = omega (arith, e, le) in g)
+    (λ gt. let e : n ≡ 0 * 8 = slot_single s 0 (lt_of_not-le gt) in let g : n ≡ 0 = omega (arith, e) in g)
 
 -- a later slot lies further on
 pub slots_rise : (s : Shape) (i j : ℕ) → i < j → slot_at s i < slot_at s j
 slots_rise s i j lt = let a : ℕ = single_of s in let m : ℕ = slot_at s i in let n : ℕ = slot_at s j in
     dite (dec_le a i)
-    (λ le. let ei : m ≡ a * 3 + i = slot_packed s i le in let ej : n
-    ≡ a * 3 + j = slot_packed s j (omega (arith, le, lt)) in let g : m < n = omega (arith, ei, ej, lt) in g)
-    (λ gt. let li : i < a = lt_of_not-le gt in let ei : m ≡ i * 4 = slot_single s i li in
+    (λ le. let ei : m ≡ a * 7 + i = slot_packed s i le in let ej : n
+    ≡ a * 7 + j = slot_packed s j (omega (arith, le, lt)) in let g : m < n = omega (arith, ei, ej, lt) in g)
+    (λ gt. let li : i < a = lt_of_not-le gt in let ei : m ≡ i * 8 = slot_single s i li in
     dite (dec_le a j)
-    (λ lj. let ej : n ≡ a * 3 + j = slot_packed s j lj in let g : m < n = omega (arith, ei, ej, li, lj) in g)
-    (λ gj. let ej : n ≡ j * 4 = slot_single s j (lt_of_not-le gj) in let g : m < n = omega (arith, ei, ej, lt) in g))
+    (λ lj. let ej : n ≡ a * 7 + j = slot_packed s j lj in let g : m < n = omega (arith, ei, ej, li, lj) in g)
+    (λ gj. let ej : n ≡ j * 8 = slot_single s j (lt_of_not-le gj) in let g : m < n = omega (arith, ei, ej, lt) in g))
 
 pub slots_rise_on : (s : Shape) (i j : ℕ) → i ≤ j → slot_at s i ≤ slot_at s j
 slots_rise_on s i j le = let m : ℕ = slot_at s i in let n : ℕ = slot_at s j in
@@ -96,21 +96,21 @@ slot_next s i =
     g
 
 -- how many slots are empty between one and the next
-pub gap_single : (s : Shape) (i : ℕ) → i < single_of s → gap_of s i ≡ 3
+pub gap_single : (s : Shape) (i : ℕ) → i < single_of s → gap_of s i ≡ 7
 gap_single s i lt =
     let a : ℕ = single_of s in let m : ℕ = slot_at s i in let n : ℕ = slot_at s (i + 1) in let em : m
-    ≡ i * 4 = slot_single s i lt in
+    ≡ i * 8 = slot_single s i lt in
     dite (dec_le a (i + 1))
-    (λ le. let en : n ≡ a * 3 + (i + 1) = slot_packed s (i + 1) le in let g : n - m - 1
-    ≡ 3 = omega (arith, em, en, le, lt) in g)
-    (λ gt. let en : n ≡ (i + 1) * 4 = slot_single s (i + 1) (lt_of_not-le gt) in let g : n - m - 1
-    ≡ 3 = omega (arith, em, en) in g)
+    (λ le. let en : n ≡ a * 7 + (i + 1) = slot_packed s (i + 1) le in let g : n - m - 1
+    ≡ 7 = omega (arith, em, en, le, lt) in g)
+    (λ gt. let en : n ≡ (i + 1) * 8 = slot_single s (i + 1) (lt_of_not-le gt) in let g : n - m - 1
+    ≡ 7 = omega (arith, em, en) in g)
 
 pub gap_packed : (s : Shape) (i : ℕ) → single_of s ≤ i → gap_of s i ≡ 0
 gap_packed s i le =
     let a : ℕ = single_of s in let m : ℕ = slot_at s i in let n : ℕ = slot_at s (i + 1) in let em : m
-    ≡ a * 3 + i = slot_packed s i le in
-    let en : n ≡ a * 3 + (i + 1) = slot_packed s (i + 1) (omega (arith, le)) in let g : n - m - 1
+    ≡ a * 7 + i = slot_packed s i le in
+    let en : n ≡ a * 7 + (i + 1) = slot_packed s (i + 1) (omega (arith, le)) in let g : n - m - 1
     ≡ 0 = omega (arith, em, en) in
     g
 

@@ -30,7 +30,7 @@ impl Firsts {
         let places = shape.lanes as usize * shape.handles as usize;
         Firsts {
             packed,
-            slot: single * 4,
+            slot: single * 8,
             word: single * 16,
             count: single * 16 + places,
         }

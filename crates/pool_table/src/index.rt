@@ -131,9 +131,9 @@ pub(crate) fn slot_index(shape: &Shape, number: usize) -> usize
 {
     let single = single_count(shape);
     if number < single {
-        number * 4
+        number * 8
     } else {
-        single * 3 + number
+        single * 7 + number
     }
 }
 
@@ -149,7 +149,7 @@ pub(crate) fn gap_count(shape: &Shape, number: usize) -> usize
     requires { IsTableShape shape.now }
     ensures { result ≡ gap_of shape.now number }
 {
-    if number < single_count(shape) { 3 } else { 0 }
+    if number < single_count(shape) { 7 } else { 0 }
 }
 
 /// Where an object's home value and its word lie.
@@ -168,7 +168,7 @@ pub(crate) fn object_slot(shape: &Shape, object: Object) -> HomeSlot
         }
     } else {
         HomeSlot {
-            home: number * 4,
+            home: number * 8,
             word: number * 16,
         }
     }

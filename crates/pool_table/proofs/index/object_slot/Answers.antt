@@ -16,7 +16,7 @@ returns-in-Root-clause-word c = c.word_index.ensures ∙ ap (word_at c.args.shap
 
 pub returns-in_default-clause-home : goal.returns-in_default-clause-home
 returns-in_default-clause-home c = let s = c.args.shape.now in let i : ℕ = home_of s c.args.object in
-    ap (λ (n : ℕ). n * 4) c.home_index-number.ensures
+    ap (λ (n : ℕ). n * 8) c.home_index-number.ensures
     ∙ sym (slot_single s i (single_home s c.args.object c.requires.object c.in_default.not-Root))
 
 pub returns-in_default-clause-word : goal.returns-in_default-clause-word

@@ -11,5 +11,5 @@ pub returns-else-number-single : goal.returns-else-number-single
 returns-else-number-single c =
     let i : ℕ = c.args.number in let n : ℕ = c.single_count-single.result in let f = c.if-number-single.false in
     let le : n ≤ i = omega (arith, f) in
-    ap (λ (m : ℕ). m * 3 + i) c.single_count-single.ensures
+    ap (λ (m : ℕ). m * 7 + i) c.single_count-single.ensures
     ∙ sym (slot_packed c.args.shape.now i (subst (λ (m : ℕ). m ≤ i) c.single_count-single.ensures le))

@@ -6,5 +6,5 @@ pub returns : goal.returns
 returns c =
     let s = c.args.shape.now in let single = c.single_count-single.ensures in
     firsts_are s c.requires _ c.packed_count-packed.ensures.within c.packed_count-packed.ensures.full
-    (ap (λ (n : ℕ). n * 4) single) (ap (λ (n : ℕ). n * 16) single)
+    (ap (λ (n : ℕ). n * 8) single) (ap (λ (n : ℕ). n * 16) single)
     (ap (λ (n : ℕ). n * 16 + s.lanes * s.handles) single)
