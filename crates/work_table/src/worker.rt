@@ -108,18 +108,16 @@ pub fn work_alone<E, O: Machine<E>, M, T: Playing<M>, R: Wait>(
     requires { (first : O) × O.comes shared.now first own.old }
     ensures { (first : O) → O.comes shared.now first own.old → O.comes shared.now first own.new }
 {
-    let mut idle = 0u32;
     let mut status = Status::Ready;
     for _ in rt.forever() {
         let seen = changes.read();
         if status.can_go(seen) {
             status = go_on(rt, shared, changes, own);
             tell(rt, table, changes, status);
-            idle = 0;
         } else if is_over(rt, table) {
             return;
         } else {
-            idle = rest(rt, changes, idle, seen);
+            changes.wait(rt, seen);
         }
     }
 }
