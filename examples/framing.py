@@ -4,7 +4,7 @@ import os
 import tempfile
 
 from trying import READ_FAULT, REFUSED, TERMINALS, WHOLE, WORDS, WRITE_FAULT
-from trying import broken_off, bytewise, cut_off, expect, run, try_ends
+from trying import alone, broken_off, bytewise, cut_off, expect, run, try_ends
 
 HEAD, LENGTH_LIMIT, FRAME_LIMIT, STREAM_LIMIT = 4, 1_048_576, 65_536, 67_108_864
 BLOCKS = (1024, 8192, 65_536)
@@ -114,6 +114,8 @@ def try_frames(cut):
     try_refusals(cut)
     try_words(cut)
     stream = stream_of(ABC)
+    for workers in (1, 4):
+        expect(f"frame_cut with no thread for {workers}", ran=(alone(cut, options(8192, workers), stream), (WHOLE, ABC_TEXT, "")))
     for most in (1, 5):
         expect(f"frame_cut < {most} bytes a read", ran=(bytewise(cut, [], stream, most), (WHOLE, ABC_TEXT, "")))
     for front in (0, 1, 6, 11)[: 4 if TERMINALS else 1]:

@@ -48,6 +48,14 @@ def cut_off(program, words, text, room):
         return ran[0], file.read().decode(), ran[2]
 
 
+def alone(program, words, text):
+    """The same where no thread can be made: each would have a stack larger than all memory."""
+    most = resource.getrlimit(resource.RLIMIT_STACK)[1]
+    large = 1 << 41 if most == resource.RLIM_INFINITY else most
+    bound = lambda: resource.setrlimit(resource.RLIMIT_STACK, (large, most))
+    return run(program, words, text, preexec_fn=bound, timeout=60)
+
+
 def bytewise(program, words, text, most):
     """The same where a read gives no more than so many bytes: a socket gives what was sent to it piece by piece."""
     ours, theirs = socket.socketpair(socket.AF_UNIX, socket.SOCK_SEQPACKET)

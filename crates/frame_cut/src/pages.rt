@@ -6,21 +6,22 @@ use std::sync::Wait;
 use std::thread;
 use std::thread::Threads;
 
-/// The memory that is touched: the chunks' 32 MiB, and some of what a mail takes at least.
+/// The memory that is touched, 44 MiB: the chunks' 32, and some of what a mail takes at least.
 const TOUCHED: usize = 46_137_344;
 
 /// So many threads touch it, each a part.
 const TOUCHERS: usize = 4;
 
 /// The C library keeps what is let go of and hands it out again with its pages, once it has seen a
-/// reservation of this size come back. (It learns from no greater one.)
+/// reservation of this size come back: 32 MiB less two pages. (glibc learns from no greater one.)
 const KEPT: usize = 33_546_240;
 
-/// Touches memory that a pool will take. Where there is none to be had it does nothing.
+/// Touches memory that a pool will take, and lets go of it: the C library hands it out again for the
+/// pool. Where there is none to be had it does nothing.
 pub fn touch_pages<R: Threads + Wait + Sync>(rt: &R, alloc: Global) {
     keep_pages(alloc);
     if let Ok(mut parts) = reserved(alloc, TOUCHERS, TOUCHED / TOUCHERS) {
-        let touch = |_i: usize, part: &mut Vec<u8>| {
+        let touch = |_index: usize, part: &mut Vec<u8>| {
             let _touched = part.resize(part.capacity(), 0);
         };
         thread::for_each_mut(rt, parts.as_mut_slice(), TOUCHERS, &touch);

@@ -9,6 +9,8 @@ use std::sync::atomic::{AtomicU64, Ordering};
 pub struct EventCount {
     changes: AtomicU64,
     asleep: AtomicU64,
+    /// How many threads have begun to help.
+    helpers: AtomicU64,
     looks: u32,
     moves: u32,
 }
@@ -20,6 +22,7 @@ impl EventCount {
         EventCount {
             changes: AtomicU64::new(0),
             asleep: AtomicU64::new(0),
+            helpers: AtomicU64::new(0),
             looks,
             moves,
         }
@@ -33,6 +36,17 @@ impl EventCount {
     /// After how many moves of one machine a change is counted.
     pub fn moves(&self) -> u32 {
         self.moves
+    }
+
+    /// A thread begins to help: a change.
+    pub fn begin(&self) {
+        self.helpers.fetch_add(1, Ordering::SeqCst);
+        self.advance();
+    }
+
+    /// Whether a thread has begun to help.
+    pub fn has_help(&self) -> bool {
+        self.helpers.load(Ordering::SeqCst) != 0
     }
 
     /// How many changes were counted, wrapping.

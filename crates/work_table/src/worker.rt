@@ -59,7 +59,8 @@ pub fn work<E, M: Machine<E>, T: Playing<M>, R: Wait>(
 }
 
 /// The same, and before each turn it steps `own`, which no other worker does, until that cannot go
-/// on. Where the table is over first it stands as it stands.
+/// on. Where the table is over first it stands as it stands. With `until_helped` it leaves the table
+/// once another thread has begun to help.
 pub fn work_beside<E, O: Machine<E>, M: Machine<E>, T: Playing<M>, R: Wait>(
     rt: &R,
     shared: &E,
@@ -67,6 +68,7 @@ pub fn work_beside<E, O: Machine<E>, M: Machine<E>, T: Playing<M>, R: Wait>(
     table: &Mutex<ManuallyDrop<Table<M, T>>>,
     changes: &EventCount,
     worker: &mut Worker<T>,
+    until_helped: bool,
 )
     requires relation { IsSameRelation T.comes (M.comes shared.now) }
     requires own { (first : O) × O.comes shared.now first own.old }
@@ -76,6 +78,9 @@ pub fn work_beside<E, O: Machine<E>, M: Machine<E>, T: Playing<M>, R: Wait>(
     let mut idle = 0u32;
     let mut status = Status::Ready;
     for _ in rt.forever() {
+        if until_helped && changes.has_help() {
+            return;
+        }
         if status.can_go(changes.read()) {
             status = go_on(rt, shared, changes, own);
             tell(rt, table, changes, status);
@@ -122,8 +127,11 @@ pub fn work_alone<E, O: Machine<E>, M, T: Playing<M>, R: Wait>(
     }
 }
 
-// Whether all machines stand in the table finished, or one found no memory.
-fn is_over<M, T: Playing<M>, R: Wait>(rt: &R, table: &Mutex<ManuallyDrop<Table<M, T>>>) -> bool {
+/// Whether all machines stand in the table finished, or one found no memory.
+pub fn is_over<M, T: Playing<M>, R: Wait>(
+    rt: &R,
+    table: &Mutex<ManuallyDrop<Table<M, T>>>,
+) -> bool {
     table.lock(rt).is_over()
 }
 

@@ -7,7 +7,7 @@ use crate::idler::Idler;
 use crate::machine::Machine;
 use crate::steps::step_all;
 use crate::table::{Playing, Status, Table};
-use crate::worker::{Worker, work, work_alone, work_beside};
+use crate::worker::{Worker, is_over, work, work_alone, work_beside};
 use std::alloc::{AllocError, Global};
 use std::marker::Brand;
 use std::mem::ManuallyDrop;
@@ -178,7 +178,7 @@ fn at_work<
     let alone = table.count() <= others.len();
     let lock = lock_of(table);
     if others.is_empty() {
-        work_beside(rt, shared, own, &lock, changes, &mut mine);
+        work_beside(rt, shared, own, &lock, changes, &mut mine, false);
     } else {
         work_with(
             rt,
@@ -233,7 +233,8 @@ fn work_with<
     thread::join_mut(rt, &mut helping, &mut working);
 }
 
-// This worker at work, at its own machine alone or beside it.
+// This worker at work, beside its own machine or at that alone: then it waits for help at the table,
+// since there is none where no thread can be made.
 fn step_own<E, O: Machine<E>, M: Machine<E>, T: Playing<M>, R: Wait>(
     rt: &R,
     shared: &E,
@@ -248,10 +249,9 @@ fn step_own<E, O: Machine<E>, M: Machine<E>, T: Playing<M>, R: Wait>(
     ensures { (first : O) →
         O.comes shared.now first own.old → O.comes shared.now first own.new }
 {
-    if alone {
+    work_beside(rt, shared, own, lock, changes, mine, alone);
+    if alone && !is_over(rt, lock) {
         work_alone(rt, shared, own, lock, changes);
-    } else {
-        work_beside(rt, shared, own, lock, changes, mine);
     }
 }
 
@@ -265,6 +265,7 @@ fn help<T: Playing<M> + Send + Sync, R: Threads + Wait + Sync, E: Sync, M: Machi
 )
     requires { IsSameRelation T.comes (M.comes shared.now) }
 {
+    changes.begin();
     let threads = workers.len().max(1);
     thread::for_each_mut(
         rt,
