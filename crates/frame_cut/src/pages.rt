@@ -6,7 +6,8 @@ use std::sync::Wait;
 use std::thread;
 use std::thread::Threads;
 
-/// The memory that is touched, 44 MiB: the chunks' 32, and some of what a mail takes at least.
+/// The memory that is touched, in bytes: 44 MiB, which are the chunks' 32, and some of what a mail takes at
+/// least.
 const TOUCHED: usize = 46_137_344;
 
 /// So many threads touch it, each a part.
@@ -22,6 +23,7 @@ pub fn touch_pages<R: Threads + Wait + Sync>(rt: &R, alloc: Global) {
     keep_pages(alloc);
     if let Ok(mut parts) = reserved(alloc, TOUCHERS, TOUCHED / TOUCHERS) {
         let touch = |_index: usize, part: &mut Vec<u8>| {
+            // It has the room, so nothing is refused.
             let _touched = part.resize(part.capacity(), 0);
         };
         thread::for_each_mut(rt, parts.as_mut_slice(), TOUCHERS, &touch);

@@ -223,7 +223,7 @@ impl ChunkPlace {
             used: _,
         } = self;
         // Its runs are a chunk.
-        let _free = chunk.free();
+        prove!(chunk.free() <= u32::MAX);
         chunk.into_piece().close(deed);
     }
 

@@ -9,10 +9,13 @@ use std::alloc::AllocError;
 // How many labels an axis has at most.
 const LABELS: u64 = 20;
 
+// So many digits a number of 64 bits has at most.
+const DIGITS: u32 = 20;
+
 /// A step between labels that leaves at most so many: 1, 2 or 5 times a power of 10.
 pub fn step_of(count: u64, most: u64) -> u64 {
     let mut power: u64 = 1;
-    for _digit in 0..10 {
+    for _digit in 0..DIGITS {
         for times in [1, 2, 5] {
             let step = power.saturating_mul(times);
             if step != 0 && count / step <= most {
