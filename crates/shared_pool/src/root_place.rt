@@ -86,7 +86,7 @@ impl Root {
         requires { length bytes.now ≤ length self.now.piece.bytes }
         ensures { result ≡ length bytes.now }
     {
-        let _most = self.piece.len();
+        prove!(bytes.len() <= self.piece.len());
         bytes.len() as u32
     }
 
