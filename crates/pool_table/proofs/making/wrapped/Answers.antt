@@ -19,7 +19,8 @@ loop-home-preserved g c =
     let kept = c.loop-home.invariant.kept in let same = c.in-Some.ensures.capacity in record {
       order =
           ap (λ l. laid_out s 0 xs ++ reverse l)
-          (c.in-Ok.ensures.items ∙ (ap (λ l. l ++ Some x ∷ [])
+          (c.in-Ok.ensures.items ∙ ap (λ y. c.leave_empty.new.slots.items ++ y ∷ [])
+          (c.of.ensures ∙ ap Some c.leave_empty.ensures.same) ∙ (ap (λ l. l ++ Some x ∷ [])
           (c.leave_empty.ensures.items ∙ ap (λ k. slots ++ replicate k None) gap)))
           ∙ (laid_turn s xs x slots ∙ (ap (λ l. laid_out s 0 l ++ reverse slots) (sym c.in-Some.ensures.items)
           ∙ c.loop-home.invariant.order));
