@@ -25,11 +25,7 @@ pub(crate) fn opening_words(alloc: Global, shape: &Shape) -> Result<Vec<u64>, Al
 
 // Each home in its slot, in the same order, and the slots between them empty. The Vec that held
 // them keeps its room.
-pub(crate) fn wrapped<H>(
-    shape: &Shape,
-    homes: &mut Vec<H>,
-    mut slots: Vec<Spot<H>>,
-) -> Vec<Spot<H>>
+pub(crate) fn wrapped<H>(shape: &Shape, homes: &mut Vec<H>, mut slots: Vec<Spot<H>>) -> Vec<Spot<H>>
     requires shape { IsTableShape shape.now }
     requires homes { vec_len homes.old ≡ objects_of shape.now }
     requires slots { (slots.items ≡ []) × (slots_of shape.now ≤ vec_capacity slots) }
@@ -64,11 +60,7 @@ fn leave_empty<H>(slots: &mut Vec<Spot<H>>, count: usize, home: H) -> H
 }
 
 // The homes out of their slots again.
-pub(crate) fn unwrapped<H>(
-    shape: &Shape,
-    mut slots: Vec<Spot<H>>,
-    mut homes: Vec<H>,
-) -> Vec<H>
+pub(crate) fn unwrapped<H>(shape: &Shape, mut slots: Vec<Spot<H>>, mut homes: Vec<H>) -> Vec<H>
     ghost laid: { List H }
     requires shape { IsTableShape shape.now }
     requires laid { slots.items ≡ laid_out shape.now 0 laid }
