@@ -2,7 +2,7 @@
 use Rattle.atomic_table.proofs.Names.{◌≡◌, ℕ, List, [], ◌∷◌, refl, a_type, named, Val, vptr, inst_fn, SProp, emp, id⊢, Fml, ftrue, fsep, flft, ‵, raw, ◌⊛◌, at_ret, ◌$◌, ◌∵◌, !, qed, by, move, keep, drop, split, join, fsplit, fsplit3, fjoin, fjoin3, fpick, fpack, rewrite, use0, use1, feq_i, stop, fld, load, addr, of_opd, first, blocks, exec, look_raw, returns, enter, alloc_all, pass_all, free_all, look_at, get, get_in, through, sets, sets_last, env, sub, whole, tables, RattleType, owns, types_at, plain, nothing, param, layouts, Stays, walk_of, fact, fact_i, heard, mut_vals, mut_Tells, opens, closes, stay_ref, Goes-ref, cell_at, full_share}
 use Rattle.std.specs.Prelude.{Option, Some, None, IsSome}
 use Rattle.atomic_table.proofs.Walks.{proved, leaves}
-use Rattle.core.proofs.atomic.Steps.{tail}
+use Rattle.std.proofs.VecSteps.Shapes.{after}
 use denote.Laws.{Typed}
 use denote.Param.{layout}
 use denote.Param.Laws.{param_laws}
@@ -34,7 +34,8 @@ take_spec 𝓤 𝓛 𝓜 𝓡 wired T L =
     qed 𝓛 (((‵ (flft κs.0 qs.0) ⊛ ‵ others) ⊛ ‵ (owns (types_at En.signature.params κs) a y.0.4))
     ∷ (raw (fact 𝓤 _) ⊛ raw (fact 𝓤 (IsSome h))) ∷ []) ∵
     move ! (1 ∷ []) $ split ! $ drop ! $ heard ! (IsSome h) (λ some.
-    let got = some_in h some in let x : T.Denot = got.0 in let Told : Type 0 = (h ≡ Some x) × (None ≡ None {A = T.Denot}) in
+    let got = some_in h some in let x : T.Denot = got.0 in let out : Option T.Denot = None in
+    let Told : Type 0 = (h ≡ Some x) × (out ≡ out) in
     split ! $ split ! $ move ! (2 ∷ []) $ fsplit ! $ fsplit3 ! $ keep ! (1 ∷ 2 ∷ 4 ∷ 5 ∷ []) $
     enter ! 𝓣.C 𝓣.Λ fn (vptr b o ∷ []) Post $ alloc_all ! (λ l. pass_all ! refl ((tt, tt), tt) $
     let Ev = env fn.locals l in
@@ -48,7 +49,8 @@ take_spec 𝓤 𝓛 𝓜 𝓡 wired T L =
     sets ! (addr ! (through ! refl (stop !))) refl (tt, tt) $
     first ! $ blocks ! $
     sets_last ! (of_opd ! (load ! (through ! refl (stop !)) (look_raw ! 0 refl))) refl inner $
-    exec ! 𝓣.C 𝓣.Λ Ev (tail (tail fn.body)) (at_ret Ev Post) $
+    exec ! 𝓣.C 𝓣.Λ Ev (after 2 fn.body) (at_ret Ev Post) $
+    sets ! (of_opd ! (get ! refl)) refl inner $
     sets ! (of_opd ! (get_in ! (fld ! refl (stop !)) (sub ! 0 refl (whole !)))) refl good $
     sets ! (of_opd ! (get ! refl)) refl good $
     nothing ! $ nothing ! $ fpack ! (Typed S.mir (v ∷ [])) (λ _. ftrue) (inner, tt) $ fjoin ! $
