@@ -1,5 +1,5 @@
 //! What `new` lays out before the table is made.
-ghost use Rattle.std.specs.Prelude.{◌≡◌, ◌≤◌, ◌+◌, ◌++◌, List, [], length, replicate, Option, None, IfOk, vec_len, vec_capacity};
+ghost use Rattle.std.specs.Prelude.{◌≡◌, ◌≤◌, ◌+◌, ◌++◌, List, [], length, replicate, Option, None, IfOk, filter_map, vec_len, vec_capacity};
 ghost use Rattle.pool_law.specs.Homes.{objects_of};
 ghost use Rattle.pool_table.specs.Sound.{IsTableShape};
 ghost use Rattle.pool_table.specs.Words.{IsOpening};
@@ -59,18 +59,19 @@ fn leave_empty<H>(slots: &mut Vec<Spot<H>>, count: usize, home: H) -> H
     home
 }
 
-// The homes out of their slots again.
+// The homes out of their slots again, which are laid out.
 pub(crate) fn unwrapped<H>(shape: &Shape, mut slots: Vec<Spot<H>>, mut homes: Vec<H>) -> Vec<H>
-    ghost laid: { List H }
     requires shape { IsTableShape shape.now }
-    requires laid { slots.items ≡ laid_out shape.now 0 laid }
-    requires many { length laid ≡ objects_of shape.now }
+    requires laid { slots.items ≡ laid_out shape.now 0 (filter_map (λ x. x) slots.items) }
+    requires many { length (filter_map (λ x. x) slots.items) ≡ objects_of shape.now }
     requires empty { homes.items ≡ [] }
-    requires room { length laid ≤ vec_capacity homes }
-    ensures { result.items ≡ laid }
+    requires room { objects_of shape.now ≤ vec_capacity homes }
+    ensures { result.items ≡ filter_map (λ x. x) slots.items }
 {
-    for number in (0..object_count(shape)).rev() {
-        drop_empty(&mut slots, gap_count(shape, number));
+    let mut left = object_count(shape);
+    while left > 0 {
+        left -= 1;
+        drop_empty(&mut slots, gap_count(shape, left));
         let Some(mut spot) = slots.pop() else {
             unreachable!()
         };
@@ -83,10 +84,10 @@ pub(crate) fn unwrapped<H>(shape: &Shape, mut slots: Vec<Spot<H>>, mut homes: Ve
     homes
 }
 
-// So many empty slots less.
+// So many empty slots less, behind those before them.
 fn drop_empty<H>(slots: &mut Vec<Spot<H>>, count: usize)
     ghost before: { List (Option H) }
-    requires { slots.old.items ≡ before ++ replicate count None }
+    requires gap { slots.old.items ≡ before ++ replicate count None }
     ensures { slots.new.items ≡ before }
 {
     for _dropped in 0..count {

@@ -12,7 +12,7 @@ use crate::firsts::Firsts;
 use crate::index::{listed_count, object_count, slot_count};
 use crate::making::{opening_words, unwrapped, wrapped};
 use crate::rule::{CutStep, Opening};
-use crate::spot::Spot;
+use crate::spot::{Spot, let_go};
 use crate::table::{LANES, PoolSeat, PoolTable};
 use crate::views::{Layout, SeatView};
 use atomic_table::{Refused, Seat, Table};
@@ -112,6 +112,7 @@ impl<H: Told<Note = Noted>> PoolTable<H> {
             });
             let Ok(()) = pushed else { unreachable!() };
         }
+        let_go(rest);
         seats
     }
 

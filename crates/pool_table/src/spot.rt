@@ -61,6 +61,11 @@ impl<H> Spot<H> {
     }
 }
 
+/// Lets a seat go. It has no bytes, and no slot of its own is dropped with it.
+pub(crate) fn let_go<H>(seat: Seat<Spot<H>, SeatView>) {
+    let _gone = unsafe { ManuallyDrop::new_unchecked(seat) };
+}
+
 /// Takes the home value out of the slot that the seat took last.
 #[inline(always)]
 pub(crate) fn taken<H: Told<Note = Noted>>(

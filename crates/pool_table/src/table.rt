@@ -10,7 +10,7 @@ ghost use Rattle.pool_table.specs.Sound.{IsTableShape};
 
 use crate::firsts::Firsts;
 use crate::rule::{Opening, Rule};
-use crate::spot::Spot;
+use crate::spot::{Spot, let_go};
 use crate::views::{Layout, Letter, SeatView};
 use atomic_table::{Seat, Table};
 use pool_law::{Noted, Object};
@@ -55,11 +55,12 @@ pub struct PoolSeat<H: Told<Note = Noted>> {
 impl<H: Told<Note = Noted>> Drop for PoolSeat<H> {
     fn drop(self) {
         let PoolSeat {
-            seat: _,
+            seat,
             number: _,
             letter: _,
             sent: _,
         } = self;
+        let_go(seat);
     }
 }
 
