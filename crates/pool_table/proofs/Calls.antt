@@ -171,10 +171,10 @@ module _ {H : Type 0} (stands : List ℕ → Setting → List Noted → H → Ty
 
   -- so the slot was taken last
   pub took : (word slot found : ℕ) (me after : Me (Option H) SeatView) → me.1 ≡ [] → slot ≡ word
-      → GotIn stands l o word me found after → (x : Option H) × (after.1 ≡ (slot, x) ∷ rest after.1)
+      → GotIn stands l o word me found after → (x : H) × (after.1 ≡ (slot, Some x) ∷ rest after.1)
   took word slot found me after empty is g =
       let e : after.1 ≡ (slot, Some g.1) ∷ [] = g.4 ∙ (λ q. (sym is q, Some g.1) ∷ empty q) in
-      (Some g.1, e ∙ (λ q. (slot, Some g.1) ∷ rest (sym e q)))
+      (g.1, e ∙ (λ q. (slot, Some g.1) ∷ rest (sym e q)))
 
 module _ {H : Type 0} (stands : List ℕ → Setting → List Noted → H → Type 0) (l : Layout) where
   -- what a step on a root's word asks, where the root's place is one of the shape's, it asks at any word that

@@ -15,6 +15,7 @@ use Rattle.history_laws.specs.Measures.{measures_of}
 use Rattle.history_laws.proofs.Apart.{home_within}
 use Rattle.pool_table.specs.Words.{listed_of, word_at, word_of, count_word_of}
 use Rattle.pool_table.specs.Slots.{slot_at, slot_of, IsEmptyBetween}
+use Rattle.pool_table.proofs.Numbered.{object_at}
 use Rattle.pool_table.proofs.Words.{object_listed, count_listed}
 use Rattle.pool_table.specs.declared.views.Entry.{Entry}
 use Rattle.pool_table.specs.declared.views.Inside.{Inside}
@@ -159,6 +160,23 @@ module _ {H : Type 0} (stands : List ℕ → Setting → List Noted → H → Ty
   nothing_between id v words slots (s, seen, same, long, there) i k lt low high =
       there k None (seen.0.between i k lt low high)
 
+  -- nobody is in a section
+  nobody_inside : (s : St) (r : IsSound stands l s) (id : ℕ) (v : SeatView) → get_elem? s.views id ≡ some v
+      → HasAllLanes l v → v.inside ≡ None → (i : ℕ) → inside_total (map (object_view l.shape i) s.views) ≡ 0
+  nobody_inside s r id v at all outside i =
+      only_view is_in i s id v at
+      (λ j u ne e. (idle_object_view i u (idle_others s r id v at all j u ne e)).0)
+      ∙ ap (λ (y : Option Inside). one_if (inside_at l.shape i y)) outside
+
+  -- so each object's home value is there
+  pub homes_there : (id : ℕ) (v : SeatView) (words : List ℕ) (slots : List (Option H)) → v.inside ≡ None
+      → HasAllLanes l v → Final (Seen (IsSound stands l) id v) words slots → (k : ℕ) → k < objects_of l.shape
+      → (home : H) × (get_elem? slots (slot_at l.shape k) ≡ some (Some home))
+  homes_there id v words slots outside all (s, seen, same, long, there) k lt =
+      let r = seen.0 in let o = object_at l.shape k lt in
+      let hv = (r.objects o.0 o.1).home_is (nobody_inside s r id v seen.1 all outside (home_of l.shape o.0)) in
+      (hv.0, ap (λ (n : ℕ). get_elem? slots (slot_at l.shape n)) (sym o.2) ∙ there (slot_of l.shape o.0) (Some hv.0) hv.1)
+
   -- the words and the home values are handed out in the order of the list
   pub closes : (id : ℕ) (v : SeatView) (words out : List ℕ) (slots homes : List (Option H))
       → length out ≡ listed_of l.shape
@@ -227,11 +245,8 @@ module _ {H : Type 0} (stands : List ℕ → Setting → List Noted → H → Ty
             length h in
             let idle : (j : ℕ) (u : SeatView) → j ≢ id → get_elem? s.views j ≡ some u
             → IsIdle u = idle_others s r id v at all in
-            let mine : is_in (object_view l.shape i v) ≡ 0 =
-            ap (λ (y : Option Inside). one_if (inside_at l.shape i y)) outside in
             let t : ℕ = inside_total (map (object_view l.shape i) s.views) in
-            let nobody : t ≡ 0 = only_view is_in i s id v at (λ j u ne e. (idle_object_view i u (idle j u ne e)).0)
-            ∙ mine in
+            let nobody : t ≡ 0 = nobody_inside s r id v at all outside i in
             let tot : (test : Entry → Bool) → in_object_view test (object_view l.shape i v)
             ≡ total test (map (object_view l.shape i) s.views) =
             (λ test. sym (only_view (in_object_view test) i s id v at

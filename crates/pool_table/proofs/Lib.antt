@@ -19,6 +19,8 @@ pub mod Newest
 pub mod Numbers
 pub mod Words
 pub mod Slots
+pub mod Unwrapping
+pub mod Numbered
 pub mod PackedPlaces
 pub mod Counts
 pub mod AtPlace

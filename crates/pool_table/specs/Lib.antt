@@ -1,5 +1,6 @@
 pub mod Words
 pub mod Slots
+pub mod Spots
 pub mod Firsts
 pub mod Views
 pub mod Counts

@@ -1,6 +1,6 @@
 //! The close: home values and words come out of the table.
 
-ghost use Rattle.std.specs.Prelude.{◌≡◌, ℕ, ◌+◌, ◌<◌, ◌≤◌, [], length, true, false, None, vec_capacity, slice_index, slice_index_or};
+ghost use Rattle.std.specs.Prelude.{◌≡◌, ℕ, ◌+◌, ◌<◌, ◌≤◌, [], length, true, false, Some, None, vec_capacity, slice_index, slice_index_or};
 ghost use mathlib.Core.Option.{some};
 ghost use lib.ListN.{get_elem?};
 ghost use Rattle.std.specs.Mem.Slots.{slots_items, slots_filled, slots_len, IsFull};
@@ -12,6 +12,7 @@ ghost use Rattle.pool_table.specs.Seats.{view_of, IsSeatOf, IsOutside};
 ghost use Rattle.pool_table.specs.Closed.{HasAllLanes, IsClosed};
 
 use crate::index::{listed_count, object_count, slot_index, word_index};
+use crate::spot::Spot;
 use crate::table::{PoolSeat, PoolTable};
 use atomic_table::Closed;
 use pool_law::{Noted, Shape};
@@ -67,12 +68,14 @@ fn take_words<S>(closed: &Closed<S, Global>, shape: &Shape, mut words: Vec<u64>)
 
 // The home values of a closed table in the order of the objects, into a Vec that has room.
 fn take_homes<H>(
-    closed: &mut Closed<Option<H>, Global>,
+    closed: &mut Closed<Spot<H>, Global>,
     shape: &Shape,
     mut homes: Vec<Option<H>>,
 ) -> Vec<Option<H>>
     requires shape { IsTableShape shape.now }
     requires full { IsFull closed.old.slots × (slots_len closed.old.slots ≡ slots_of shape.now) }
+    requires there { (k : ℕ) → k < objects_of shape.now → (home : H)
+        × (get_elem? (slots_items closed.old.slots) (slot_at shape.now k) ≡ some (Some home)) }
     requires between { IsEmptyBetween shape.now (slots_items closed.old.slots) }
     requires room { (homes.items ≡ []) × (objects_of shape.now ≤ vec_capacity homes) }
     ensures many { length result.items ≡ objects_of shape.now }
@@ -85,15 +88,17 @@ fn take_homes<H>(
     let count = object_count(shape);
     for i in 0..count {
         let slot = slot_index(shape, i);
-        let pushed = homes.push(closed.take(slot));
+        let mut spot = closed.take(slot);
+        let pushed = homes.push(Some(spot.take()));
         let Ok(()) = pushed else { unreachable!() };
+        spot.leave();
         pass_empty(closed, slot, slot_index(shape, i + 1));
     }
     homes
 }
 
 // Goes over the empty slots behind one.
-fn pass_empty<H>(closed: &mut Closed<Option<H>, Global>, slot: usize, end: usize)
+fn pass_empty<H>(closed: &mut Closed<Spot<H>, Global>, slot: usize, end: usize)
     requires within { (slot < end) × (end ≤ slots_len closed.old.slots) }
     requires full { (k : ℕ) → slot < k → k < end →
         slice_index_or (slots_filled closed.old.slots) k false ≡ true }
@@ -111,7 +116,6 @@ fn pass_empty<H>(closed: &mut Closed<Option<H>, Global>, slot: usize, end: usize
         ≡ slice_index_or (slots_filled closed.old.slots) k false }
 {
     for k in slot + 1..end {
-        let nothing = closed.take(k);
-        let None = nothing else { unreachable!() };
+        closed.take(k).leave();
     }
 }

@@ -19,6 +19,7 @@ mod rule;
 mod seats;
 mod section;
 mod sections;
+mod spot;
 mod table;
 mod tokens;
 mod views;

@@ -1,11 +1,12 @@
 //! What `new` lays out before the table is made.
-ghost use Rattle.std.specs.Prelude.{◌≡◌, ◌≤◌, ◌+◌, ◌++◌, [], length, filter_map, replicate, None, IfOk, vec_len, vec_capacity};
+ghost use Rattle.std.specs.Prelude.{◌≡◌, ◌≤◌, ◌+◌, ◌++◌, List, [], length, replicate, Option, None, IfOk, filter_map, vec_len, vec_capacity};
 ghost use Rattle.pool_law.specs.Homes.{objects_of};
 ghost use Rattle.pool_table.specs.Sound.{IsTableShape};
 ghost use Rattle.pool_table.specs.Words.{IsOpening};
 ghost use Rattle.pool_table.specs.Slots.{laid_out, slots_of};
 
-use crate::index::{count_index, gap_count, word_count};
+use crate::index::{count_index, gap_count, object_count, word_count};
+use crate::spot::Spot;
 use pool_law::Shape;
 use std::alloc::{AllocError, Global};
 
@@ -24,11 +25,7 @@ pub(crate) fn opening_words(alloc: Global, shape: &Shape) -> Result<Vec<u64>, Al
 
 // Each home in its slot, in the same order, and the slots between them empty. The Vec that held
 // them keeps its room.
-pub(crate) fn wrapped<H>(
-    shape: &Shape,
-    homes: &mut Vec<H>,
-    mut slots: Vec<Option<H>>,
-) -> Vec<Option<H>>
+pub(crate) fn wrapped<H>(shape: &Shape, homes: &mut Vec<H>, mut slots: Vec<Spot<H>>) -> Vec<Spot<H>>
     requires shape { IsTableShape shape.now }
     requires homes { vec_len homes.old ≡ objects_of shape.now }
     requires slots { (slots.items ≡ []) × (slots_of shape.now ≤ vec_capacity slots) }
@@ -36,40 +33,67 @@ pub(crate) fn wrapped<H>(
     ensures homes { (homes.new.items ≡ []) × (vec_len homes.old ≤ vec_capacity homes.new) }
 {
     while let Some(home) = homes.pop() {
-        leave_empty(&mut slots, gap_count(shape, homes.len()));
-        let pushed = slots.push(Some(home));
+        let home = leave_empty(&mut slots, gap_count(shape, homes.len()), home);
+        let pushed = slots.push(Spot::of(home));
         let Ok(()) = pushed else { unreachable!() };
     }
     slots.as_mut_slice().reverse();
     slots
 }
 
-// So many empty slots more.
-fn leave_empty<H>(slots: &mut Vec<Option<H>>, count: usize)
+// So many empty slots more. Each is one that the home value was in, which comes out again.
+fn leave_empty<H>(slots: &mut Vec<Spot<H>>, count: usize, home: H) -> H
     requires { vec_len slots.old + count ≤ vec_capacity slots.old }
+    ensures same { result ≡ home }
     ensures items { slots.new.items ≡ slots.old.items ++ replicate count None }
     ensures many { vec_len slots.new ≡ vec_len slots.old + count }
     ensures room { vec_capacity slots.old ≤ vec_capacity slots.new }
 {
+    let mut home = home;
     for _made in 0..count {
-        let pushed = slots.push(None);
+        let mut spot = Spot::of(home);
+        home = spot.take();
+        let pushed = slots.push(spot);
         let Ok(()) = pushed else { unreachable!() };
     }
+    home
 }
 
-// The homes out of their slots again.
-pub(crate) fn unwrapped<H>(mut slots: Vec<Option<H>>, mut homes: Vec<H>) -> Vec<H>
+// The homes out of their slots again, which are laid out.
+pub(crate) fn unwrapped<H>(shape: &Shape, mut slots: Vec<Spot<H>>, mut homes: Vec<H>) -> Vec<H>
+    requires shape { IsTableShape shape.now }
+    requires laid { slots.items ≡ laid_out shape.now 0 (filter_map (λ x. x) slots.items) }
+    requires many { length (filter_map (λ x. x) slots.items) ≡ objects_of shape.now }
     requires empty { homes.items ≡ [] }
-    requires room { length (filter_map (λ x. x) slots.items) ≤ vec_capacity homes }
+    requires room { objects_of shape.now ≤ vec_capacity homes }
     ensures { result.items ≡ filter_map (λ x. x) slots.items }
 {
-    while let Some(slot) = slots.pop() {
-        if let Some(home) = slot {
-            let pushed = homes.push(home);
-            let Ok(()) = pushed else { unreachable!() };
-        }
+    let mut left = object_count(shape);
+    while left > 0 {
+        left -= 1;
+        drop_empty(&mut slots, gap_count(shape, left));
+        let Some(mut spot) = slots.pop() else {
+            unreachable!()
+        };
+        let pushed = homes.push(spot.take());
+        let Ok(()) = pushed else { unreachable!() };
+        spot.leave();
     }
     slots.destroy_empty();
     homes.as_mut_slice().reverse();
     homes
+}
+
+// So many empty slots less, behind those before them.
+fn drop_empty<H>(slots: &mut Vec<Spot<H>>, count: usize)
+    ghost before: { List (Option H) }
+    requires gap { slots.old.items ≡ before ++ replicate count None }
+    ensures { slots.new.items ≡ before }
+{
+    for _dropped in 0..count {
+        let Some(spot) = slots.pop() else {
+            unreachable!()
+        };
+        spot.leave();
+    }
 }

@@ -14,6 +14,7 @@ ghost use Rattle.pool_table.specs.Sections.{GotSection, FoundHeld};
 
 use crate::index::place_slot;
 use crate::rule::{ClaimStep, Claiming, MarkStep};
+use crate::spot::{Spot, taken};
 use crate::table::{HomeSlot, PoolSeat, PoolTable, Section};
 use crate::views::SeatView;
 use atomic_table::Seat;
@@ -26,7 +27,7 @@ impl<H: Told<Note = Noted>> PoolTable<H> {
     #[inline(always)]
     fn claim_place_word<C: Claiming>(
         &self,
-        seat: &mut Seat<Option<H>, SeatView>,
+        seat: &mut Seat<Spot<H>, SeatView>,
         place: u32,
         slot: HomeSlot,
         mark: bool,
@@ -89,8 +90,7 @@ impl<H: Told<Note = Noted>> PoolTable<H> {
                 number: found / 2,
             });
         }
-        let taken = self.table.shared.exchange(&mut seat.seat, slot.home, None);
-        let Some(home) = taken else { unreachable!() };
+        let home = taken(&self.table.shared, &mut seat.seat, slot.home);
         Ok(Section { home, object, slot })
     }
 }

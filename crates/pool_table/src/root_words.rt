@@ -13,6 +13,7 @@ ghost use Rattle.pool_table.specs.Steps.{births, releases};
 
 use crate::index::root_index;
 use crate::rule::{BirthStep, LookStep, ReleaseStep, RetainStep, Rooted, VacateStep};
+use crate::spot::Spot;
 use crate::table::PoolTable;
 use crate::views::SeatView;
 use atomic_table::Seat;
@@ -23,7 +24,7 @@ impl<H: Told<Note = Noted>> PoolTable<H> {
     #[inline(always)]
     pub(crate) fn birth_word<R: Rooted>(
         &self,
-        seat: &mut Seat<Option<H>, SeatView>,
+        seat: &mut Seat<Spot<H>, SeatView>,
         root: RootId,
     ) -> u64
         requires named { R.root ≡ root }
@@ -46,7 +47,7 @@ impl<H: Told<Note = Noted>> PoolTable<H> {
     #[inline(always)]
     pub(crate) fn retain_word<R: Rooted>(
         &self,
-        seat: &mut Seat<Option<H>, SeatView>,
+        seat: &mut Seat<Spot<H>, SeatView>,
         root: RootId,
     ) -> u64
         requires named { R.root ≡ root }
@@ -66,7 +67,7 @@ impl<H: Told<Note = Noted>> PoolTable<H> {
     #[inline(always)]
     pub(crate) fn release_word<R: Rooted>(
         &self,
-        seat: &mut Seat<Option<H>, SeatView>,
+        seat: &mut Seat<Spot<H>, SeatView>,
         root: RootId,
     ) -> u64
         requires named { R.root ≡ root }
@@ -87,7 +88,7 @@ impl<H: Told<Note = Noted>> PoolTable<H> {
     #[inline(always)]
     pub(crate) fn vacate_word<R: Rooted>(
         &self,
-        seat: &mut Seat<Option<H>, SeatView>,
+        seat: &mut Seat<Spot<H>, SeatView>,
         root: RootId,
     ) -> u64
         requires named { R.root ≡ root }
@@ -108,7 +109,7 @@ impl<H: Told<Note = Noted>> PoolTable<H> {
     #[inline(always)]
     pub(crate) fn look_word<R: Rooted>(
         &self,
-        seat: &mut Seat<Option<H>, SeatView>,
+        seat: &mut Seat<Spot<H>, SeatView>,
         root: RootId,
     ) -> u64
         requires named { R.root ≡ root }

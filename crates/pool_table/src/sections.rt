@@ -23,6 +23,7 @@ ghost use Rattle.pool_table.specs.Sections.{GotSection, FoundHeld, MayEnd, MayId
 
 use crate::index::object_slot;
 use crate::rule::{ClaimStep, Claiming, DoneStep, IdleStep, MarkStep};
+use crate::spot::{Spot, put_back, taken};
 use crate::table::{HomeSlot, PoolSeat, PoolTable, Section};
 use crate::views::SeatView;
 use atomic_table::Seat;
@@ -35,7 +36,7 @@ impl<H: Told<Note = Noted>> PoolTable<H> {
     #[inline(always)]
     fn claim_word<C: Claiming>(
         &self,
-        seat: &mut Seat<Option<H>, SeatView>,
+        seat: &mut Seat<Spot<H>, SeatView>,
         object: Object,
         slot: HomeSlot,
         mark: bool,
@@ -100,8 +101,7 @@ impl<H: Told<Note = Noted>> PoolTable<H> {
                 number: found / 2,
             });
         }
-        let taken = self.table.shared.exchange(&mut seat.seat, slot.home, None);
-        let Some(home) = taken else { unreachable!() };
+        let home = taken(&self.table.shared, &mut seat.seat, slot.home);
         Ok(Section { home, object, slot })
     }
 
@@ -126,11 +126,7 @@ impl<H: Told<Note = Noted>> PoolTable<H> {
             object: _,
             slot,
         } = section;
-        let empty = self
-            .table
-            .shared
-            .exchange(&mut seat.seat, slot.home, Some(home));
-        let None = empty else { unreachable!() };
+        put_back(&self.table.shared, &mut seat.seat, slot.home, home);
         let found = self
             .table
             .shared
@@ -153,11 +149,7 @@ impl<H: Told<Note = Noted>> PoolTable<H> {
             object: _,
             slot,
         } = section;
-        let empty = self
-            .table
-            .shared
-            .exchange(&mut seat.seat, slot.home, Some(home));
-        let None = empty else { unreachable!() };
+        put_back(&self.table.shared, &mut seat.seat, slot.home, home);
         self.table
             .shared
             .fetch_sub::<IdleStep>(&mut seat.seat, slot.word, 1);

@@ -10,7 +10,7 @@ use Rattle.pool_law.specs.Roots.{Present, laid_over, bytes_at, place_step, place
 use Rattle.pool_law.proofs.PatternLemmas.{same_root-refl}
 use Rattle.shared_pool.specs.RootPlaces.{RootState, PlaceState, law_root, law_place}
 use Rattle.shared_pool.specs.PlaceViews.{root_seen, state_in}
-use Rattle.shared_pool.specs.declared.root_place.Root.{Root}
+use Rattle.shared_pool.specs.declared.root_place.Held.{Held}
 use Rattle.shared_pool.specs.declared.root_place.RootPlace.TheInside.{Inside}
 use Rattle.shared_pool.specs.PlaceSteps.{MayAccess, Accesses, AreThere, accessed, shown, vacated}
 use Rattle.pool_table.proofs.GiftSteps.{laid-length}
@@ -159,48 +159,49 @@ module _ (old : PlaceState) (r : RootState) (was : old.present ≡ Some r) (fits
         at_root place (Did.End r.root) ∙ (λ i. if same_root-refl r.root i then Some (law_place (vacated old)) else None)
 
 -- the same, of the fields of a place at which a root is
-module _ (i : Inside) (r s : Root) (old : PlaceState) (view : state_in i ≡ old) (here : i.present ≡ Some r) where
-  was : old.present ≡ Some (root_seen r)
-  was = ap (λ (y : PlaceState). y.present) (sym view) ∙ ap (option_map root_seen) here
+module _ (i : Inside) (h k : Held) (old : PlaceState) (view : state_in i ≡ old) (here : i.present ≡ Some h) where
+  abbrev r : RootState
+  r = root_seen i.last h
 
-  present_is : (offset n : ℕ) (may : MayAccess offset n old) → may.root ≡ root_seen r
-  present_is offset n may = let e : Some may.root ≡ Some (root_seen r) = sym may.present ∙ was in cc e
+  was : old.present ≡ Some r
+  was = ap (λ (y : PlaceState). y.present) (sym view) ∙ ap (option_map (root_seen i.last)) here
 
-  pub fits_in : (offset n : ℕ) → MayAccess offset n old → r.capacity ≤ length r.piece.bytes
+  present_is : (offset n : ℕ) (may : MayAccess offset n old) → may.root ≡ r
+  present_is offset n may = let e : Some may.root ≡ Some r = sym may.present ∙ was in cc e
+
+  pub fits_in : (offset n : ℕ) → MayAccess offset n old → i.last.capacity ≤ length h.piece.bytes
   fits_in offset n may =
       subst (λ (q : RootState). q.capacity ≤ length q.piece.bytes) (present_is offset n may) may.fits
 
-  pub range_in : (offset n : ℕ) → MayAccess offset n old → offset + n ≤ r.capacity
+  pub range_in : (offset n : ℕ) → MayAccess offset n old → offset + n ≤ i.last.capacity
   range_in offset n may = subst (λ (q : RootState). offset + n ≤ q.capacity) (present_is offset n may) may.range
 
-  made : (did : Did) (access : Access) (bytes : List ℕ) → root_seen s ≡ accessed (root_seen r) bytes access
-      → Accesses old did access (record old { present = Some (accessed (root_seen r) bytes access) }) →
-      Accesses old did access (state_in (record { generation = i.generation; present = Some s }))
+  made : (did : Did) (access : Access) (bytes : List ℕ) → root_seen i.last k ≡ accessed r bytes access
+      → Accesses old did access (record old { present = Some (accessed r bytes access) }) →
+      Accesses old did access (state_in (record i { present = Some k }))
   made did access bytes same a =
       subst (Accesses old did access)
-      (λ k. record { generation = ap (λ (y : PlaceState). y.generation) (sym view) k; present = Some (sym same k) })
+      (λ t. record { generation = ap (λ (y : PlaceState). y.generation) (sym view) t; present = Some (sym same t) })
       a
 
-  pub touched : (lane : ℕ) → MayAccess 0 0 old → root_seen s ≡ accessed (root_seen r) r.piece.bytes (Access.Touch lane)
-      → Accesses old Did.Touch (Access.Touch lane) (state_in (record { generation = i.generation; present = Some s }))
+  pub touched : (lane : ℕ) → MayAccess 0 0 old → root_seen i.last k ≡ accessed r h.piece.bytes (Access.Touch lane)
+      → Accesses old Did.Touch (Access.Touch lane) (state_in (record i { present = Some k }))
   touched lane may same =
-      made Did.Touch (Access.Touch lane) r.piece.bytes same (touches old (root_seen r) was (fits_in 0 0 may) lane)
+      made Did.Touch (Access.Touch lane) h.piece.bytes same (touches old r was (fits_in 0 0 may) lane)
 
   pub is_set : (lane offset : ℕ) (ys : List ℕ) → MayAccess offset (length ys) old
-      → root_seen s ≡ accessed (root_seen r) (laid_over r.piece.bytes offset ys) (Access.Set lane offset (length ys)) →
-      Accesses old (Did.Set offset ys) (Access.Set lane offset (length ys))
-      (state_in (record { generation = i.generation; present = Some s }))
+      → root_seen i.last k ≡ accessed r (laid_over h.piece.bytes offset ys) (Access.Set lane offset (length ys)) →
+      Accesses old (Did.Set offset ys) (Access.Set lane offset (length ys)) (state_in (record i { present = Some k }))
   is_set lane offset ys may same =
-      made (Did.Set offset ys) (Access.Set lane offset (length ys)) (laid_over r.piece.bytes offset ys) same
-      (sets old (root_seen r) was (fits_in offset (length ys) may) lane offset ys (range_in offset (length ys) may))
+      made (Did.Set offset ys) (Access.Set lane offset (length ys)) (laid_over h.piece.bytes offset ys) same
+      (sets old r was (fits_in offset (length ys) may) lane offset ys (range_in offset (length ys) may))
 
-  pub is_got : (lane offset n : ℕ) (ys : List ℕ) → MayAccess offset n old → ys ≡ bytes_at r.piece.bytes offset n
-      → root_seen s ≡ accessed (root_seen r) r.piece.bytes (Access.Get lane offset (length ys)) →
-      Accesses old (Did.Get offset ys) (Access.Get lane offset (length ys))
-      (state_in (record { generation = i.generation; present = Some s }))
+  pub is_got : (lane offset n : ℕ) (ys : List ℕ) → MayAccess offset n old → ys ≡ bytes_at h.piece.bytes offset n
+      → root_seen i.last k ≡ accessed r h.piece.bytes (Access.Get lane offset (length ys)) →
+      Accesses old (Did.Get offset ys) (Access.Get lane offset (length ys)) (state_in (record i { present = Some k }))
   is_got lane offset n ys may is same =
-      made (Did.Get offset ys) (Access.Get lane offset (length ys)) r.piece.bytes same
-      (gets old (root_seen r) was (fits_in offset n may) lane offset n ys (range_in offset n may) is)
+      made (Did.Get offset ys) (Access.Get lane offset (length ys)) h.piece.bytes same
+      (gets old r was (fits_in offset n may) lane offset n ys (range_in offset n may) is)
 
   pub are_there : (offset n : ℕ) → MayAccess offset n old → AreThere offset (bytes_at (shown old) offset n) old
-  are_there offset n may = there old (root_seen r) was (fits_in offset n may) offset n (range_in offset n may)
+  are_there offset n may = there old r was (fits_in offset n may) offset n (range_in offset n may)

@@ -5,8 +5,8 @@ ghost use Rattle.shared_pool.specs.Emptying.{Left, left_at, left_of, left_of_cac
 
 use crate::home::Home;
 use crate::opening::spend;
-use crate::root_place::{Root, RootPlace};
-use pool_law::Region;
+use crate::root_place::{Held, RootPlace};
+use pool_law::{Region, RegionId};
 use region_cache::Cache;
 
 // Gives all that is left to the arenas, which are the first of the home values, and closes them.
@@ -83,29 +83,24 @@ fn empty_place(place: RootPlace, homes: &mut [Option<Home>])
 {
     let RootPlace {
         generation: _,
+        last,
         present,
     } = place;
-    let Some(root) = present else {
+    let Some(held) = present else {
         return;
     };
-    give_to(homes, region_of(root));
+    give_to(homes, region_of(last.region, held));
 }
 
-// The region of a root, whose handle is spent.
-fn region_of(root: Root) -> Region
-    requires { length root.piece.bytes ≡ root.region.place.len }
-    ensures id { result.id ≡ root.region }
-    ensures piece { result.piece ≡ root.piece }
+// The region of this name that a root has, whose handle is spent.
+fn region_of(id: RegionId, held: Held) -> Region
+    requires { length held.piece.bytes ≡ id.place.len }
+    ensures id { result.id ≡ id }
+    ensures piece { result.piece ≡ held.piece }
 {
-    let Root {
-        root: _,
-        region,
-        piece,
-        handle,
-        capacity: _,
-    } = root;
+    let Held { piece, handle } = held;
     handle.leave();
-    Region::new(region, piece)
+    Region::new(id, piece)
 }
 
 // Gives a region to its arena.

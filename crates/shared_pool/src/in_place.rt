@@ -26,7 +26,7 @@ ghost use Rattle.shared_pool.specs.Standing.{HomeStands, IsPlace, IfPlace};
 use crate::home::Home;
 use crate::noting::lane_of;
 use crate::pool::SharedPool;
-use crate::root_place::{Root, RootPlace};
+use crate::root_place::{Held, RootPlace};
 use crate::seat::{PoolSeat, TableSeat};
 use crate::went::Went;
 use pool_law::{Access, Named, RootId};
@@ -153,15 +153,15 @@ impl RootPlace {
             Accesses self.old (Did.Set offset bytes)
             (Access.Set lane offset (length bytes)) self.new }
     {
-        let Some(root) = &mut self.present else {
+        let Some(held) = &mut self.present else {
             unreachable!()
         };
-        root.record(Access::Set { lane, offset, len });
-        root.lend(offset, len, f)
+        held.record(Access::Set { lane, offset, len });
+        held.lend(offset, len, f)
     }
 }
 
-impl Root {
+impl Held {
     // Calls `f` with bytes in place, from an offset on.
     fn lend<R, F: FnOnce(&mut [u8]) -> R>(&mut self, offset: u32, len: u32, f: F) -> R
         requires range { offset + len ≤ length self.old.piece.bytes }

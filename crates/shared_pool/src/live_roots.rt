@@ -10,7 +10,7 @@ ghost use Rattle.shared_pool.specs.PlaceViews.{root_seen};
 ghost use Rattle.shared_pool.specs.Rooms.{IsSpare};
 
 use crate::home::Home;
-use crate::root_place::{Root, RootPlace};
+use crate::root_place::{Held, Root, RootPlace};
 use crate::spares::{KEPT, add};
 use leak_records::{LiveRoot, Tracker};
 use pool_law::{Access, Items, Shape};
@@ -87,23 +87,23 @@ impl RootPlace {
         ensures same { self.new ≡ self.old }
         ensures told { listed result (λ x. x) ≡ told_in self.old count }
     {
-        let Some(root) = &mut self.present else {
+        let Some(held) = &mut self.present else {
             return None;
         };
-        root.told(count, records)
+        self.last.told(held, count, records)
     }
 }
 
 impl Root {
     // What is told of it, if it is watched.
-    fn told(&mut self, count: u32, records: Vec<Access>) -> Option<LiveRoot>
-        requires few { length self.old.handle.tracker.kept ≤ 4 }
+    fn told(&self, held: &mut Held, count: u32, records: Vec<Access>) -> Option<LiveRoot>
+        requires few { length held.old.handle.tracker.kept ≤ 4 }
         requires records { IsSpare records }
-        ensures same { self.new ≡ self.old }
-        ensures told { listed result (λ x. x) ≡ told_of count (root_seen self.old) }
+        ensures same { held.new ≡ held.old }
+        ensures told { listed result (λ x. x) ≡ told_of count (root_seen self.now held.old) }
     {
         let capacity = self.capacity;
-        let tracker = self.handle.tracker();
+        let tracker = held.handle.tracker();
         let Some(watch) = tracker.watch() else {
             return None;
         };

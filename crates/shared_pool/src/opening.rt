@@ -7,7 +7,7 @@ ghost use Rattle.shared_pool.specs.Opening.{IsFirstArena, IsCacheOf, IsFirstCach
 use crate::dealing::{SeatRoom, new_mails};
 use crate::home::Home;
 use crate::pool::SharedPool;
-use crate::root_place::{Root, RootPlace};
+use crate::root_place::{Held, Root, RootPlace};
 use crate::seat::{PoolSeat, TableSeat};
 use handle_bin::Bin;
 use pool_arena::Arena;
@@ -211,6 +211,7 @@ fn root_home(alloc: Global) -> Result<Home, AllocError>
 {
     let place = RootPlace {
         generation: 0,
+        last: Root::none(),
         present: None,
     };
     match Box::new(alloc, place) {
@@ -242,18 +243,11 @@ pub(crate) fn spend(home: Home) {
 fn spend_place(place: RootPlace) {
     let RootPlace {
         generation: _,
+        last: _,
         present,
     } = place;
     match present {
-        Some(
-            Root {
-                root: _,
-                region: _,
-                piece,
-                handle,
-                capacity: _,
-            },
-        ) => {
+        Some(Held { piece, handle }) => {
             piece.leave();
             handle.leave();
         }

@@ -12,7 +12,7 @@ ghost use Rattle.shared_pool.specs.Regrowing.{MayRegrow, Turns, Answers, IsGrown
 ghost use Rattle.shared_pool.specs.Standing.{IsPlace, IfPlace};
 
 use crate::home::Home;
-use crate::root_place::Root;
+use crate::root_place::Held;
 use crate::went::{Grown, Room};
 use handle_bin::Handle;
 use pool_law::{Region, RootId, Watch};
@@ -156,14 +156,8 @@ pub(crate) fn end(section: &mut Section<Home>) -> (Region, Handle)
     let Home::Root(place) = Section::home(section) else {
         unreachable!()
     };
-    let Root {
-        root: _,
-        region,
-        piece,
-        handle,
-        capacity: _,
-    } = place.end();
-    (Region::new(region, piece), handle)
+    let (root, Held { piece, handle }) = place.end();
+    (Region::new(root.region, piece), handle)
 }
 
 // What the root of a section answers to an ask for so much capacity.

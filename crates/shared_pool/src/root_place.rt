@@ -14,27 +14,35 @@ ghost use Rattle.shared_pool.specs.PlaceSteps.{MayAccess, Accesses, shown, clear
 
 use ground::Piece;
 use handle_bin::Handle;
-use pool_law::{Access, Region, RegionId, RootId, Watch};
+use pool_law::{Access, Place, Region, RegionId, RootId, Watch};
 use std::marker::Model;
 use std::mem::replace;
 
 // The generation of the last root that a place has a name for.
 const LAST_GENERATION: u32 = u32::MAX;
 
-// A root that is present. Its bytes are the first of the region's, as many as the capacity that it
-// has by now.
+// A root: its name, the capacity that it has by now, and its region. Its bytes are the first of the
+// region's, as many as its capacity.
+#[derive(Clone, Copy, Drop)]
 pub(crate) struct Root {
     pub(crate) root: RootId,
+    pub(crate) capacity: u32,
     pub(crate) region: RegionId,
+}
+
+// What a root has while it is present: the memory of its region, and the handle of its place.
+pub(crate) struct Held {
     pub(crate) piece: Piece,
     pub(crate) handle: Handle,
-    pub(crate) capacity: u32,
 }
 
 /// The place of one root after another (Netty: `PooledByteBuf`). It must be spent.
 pub struct RootPlace {
     pub(crate) generation: u32,
-    pub(crate) present: Option<Root>,
+    // The root of the last birth. What must be taken out as it ends stands apart, so that an end
+    // writes over little.
+    pub(crate) last: Root,
+    pub(crate) present: Option<Held>,
 }
 
 impl Model for RootPlace {
@@ -48,6 +56,33 @@ impl Model for RootPlace {
 }
 
 impl Root {
+    // What stands at a place where no root was born yet.
+    pub(crate) fn none() -> Root {
+        let place = Place {
+            arena: 0,
+            chunk: 0,
+            offset: 0,
+            len: 0,
+        };
+        Root {
+            root: RootId {
+                place: 0,
+                generation: 0,
+                capacity: 0,
+            },
+            capacity: 0,
+            region: RegionId {
+                place,
+                class: 0,
+                owner: 0,
+                taking: 0,
+                uses: 0,
+            },
+        }
+    }
+}
+
+impl Held {
     // Lays bytes over those that are there, from an offset on.
     #[inline]
     fn set(&mut self, offset: u32, bytes: &[u8])
@@ -86,7 +121,7 @@ impl Root {
         requires { length bytes.now ≤ length self.now.piece.bytes }
         ensures { result ≡ length bytes.now }
     {
-        let _most = self.piece.len();
+        prove!(bytes.len() <= self.piece.len());
         bytes.len() as u32
     }
 
@@ -108,10 +143,10 @@ impl RootPlace {
         requires { MayAccess 0 0 self.old }
         ensures { Accesses self.old Did.Touch (Access.Touch lane) self.new }
     {
-        let Some(root) = &mut self.present else {
+        let Some(held) = &mut self.present else {
             unreachable!()
         };
-        root.record(Access::Touch { lane });
+        held.record(Access::Touch { lane });
     }
 
     /// Lays bytes over those of the root, from an offset on.
@@ -121,12 +156,12 @@ impl RootPlace {
         ensures { Accesses self.old (Did.Set offset bytes.now)
             (Access.Set lane offset (length bytes.now)) self.new }
     {
-        let Some(root) = &mut self.present else {
+        let Some(held) = &mut self.present else {
             unreachable!()
         };
-        root.set(offset, bytes);
-        let len = root.count(bytes);
-        root.record(Access::Set { lane, offset, len });
+        held.set(offset, bytes);
+        let len = held.count(bytes);
+        held.record(Access::Set { lane, offset, len });
     }
 
     /// Copies bytes of the root out, from an offset on.
@@ -137,12 +172,12 @@ impl RootPlace {
         ensures did { Accesses self.old (Did.Get offset out.new)
             (Access.Get lane offset (length out.new)) self.new }
     {
-        let Some(root) = &mut self.present else {
+        let Some(held) = &mut self.present else {
             unreachable!()
         };
-        root.get(offset, out);
-        let len = root.count(out);
-        root.record(Access::Get { lane, offset, len });
+        held.get(offset, out);
+        let len = held.count(out);
+        held.record(Access::Get { lane, offset, len });
     }
 
     /// Calls `f` once with bytes of the root, from an offset on.
@@ -162,11 +197,11 @@ impl RootPlace {
             Accesses self.old (Did.Get offset bytes)
             (Access.Get lane offset (length bytes)) self.new }
     {
-        let Some(root) = &mut self.present else {
+        let Some(held) = &mut self.present else {
             unreachable!()
         };
-        root.record(Access::Get { lane, offset, len });
-        root.show(offset, len, f)
+        held.record(Access::Get { lane, offset, len });
+        held.show(offset, len, f)
     }
 
     /// Whether no name is left for another root.
@@ -212,31 +247,27 @@ impl RootPlace {
             ..id
         };
         self.generation = root.generation;
-        let none = replace(
-            &mut self.present,
-            Some(Root {
-                root,
-                region,
-                piece,
-                handle,
-                capacity,
-            }),
-        );
+        self.last = Root {
+            root,
+            capacity,
+            region,
+        };
+        let none = replace(&mut self.present, Some(Held { piece, handle }));
         let None = none else { unreachable!() };
         root
     }
 
-    /// Takes the root out. The place is vacant then.
+    /// Takes out what the root has. The place is vacant then.
     #[inline]
-    pub(crate) fn end(&mut self) -> Root
+    pub(crate) fn end(&mut self) -> (Root, Held)
         requires { IsSome self.old.present }
-        ensures root { self.old.present ≡ Some (root_seen result) }
+        ensures root { self.old.present ≡ Some (root_seen result.0 result.1) }
         ensures vacated { self.new ≡ vacated self.old }
     {
-        let Some(root) = replace(&mut self.present, None) else {
+        let Some(held) = replace(&mut self.present, None) else {
             unreachable!()
         };
-        root
+        (self.last, held)
     }
 }
 

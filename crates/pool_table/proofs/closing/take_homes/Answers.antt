@@ -1,5 +1,6 @@
 use Rattle.std.proofs.Common.{rules, ◌≡◌, ◌≢◌, ◌+◌, ◌<◌, ◌≤◌, ℕ, false, refl, sym, ap, ◌∙◌, subst, arith, get_or-set_same, get_or-set_other, length, lt_of_not-le}
-use Rattle.std.specs.Prelude.{slice_index_or, slice_set}
+use Rattle.std.specs.Prelude.{Some, is_some, slice_index_or, slice_set}
+use mathlib.Core.Option.{some, some-injective}
 use Rattle.std.specs.Mem.Slots.{slots_items, slots_filled, slots_len, slots_counts}
 use mathlib.Core.Logic.{dite}
 use native.Mathlib.Decide.{ℕ_discrete, dec_le}
@@ -24,8 +25,8 @@ loop-i-init g c = let s = c.args.shape.now in record {
       ≡ 0 = first_slot s in let lt' : k < n = lt in absurd (omega (arith, z, lt')));
 }
 
-pub take-requires : goal.take-requires
-take-requires g c = let s = c.args.shape.now in let i : ℕ = c.loop-i.i in let fs = slots_filled c.loop-i.closed.slots in
+pub take-spot-requires : goal.take-spot-requires
+take-spot-requires g c = let s = c.args.shape.now in let i : ℕ = c.loop-i.i in let fs = slots_filled c.loop-i.closed.slots in
     let lt : i < objects_of s = subst (λ (n : ℕ). i < n) c.object_count-count.ensures c.loop-i-test.true in
     let near : slot_at s i < slots_of s = slots_rise s i (objects_of s) lt in
     let le : slot_at s i ≤ slot_at s i = slots_rise_on s i i (omega arith) in (
@@ -34,13 +35,23 @@ take-requires g c = let s = c.args.shape.now in let i : ℕ = c.loop-i.i in let 
           ∙ c.loop-i.invariant.full (slot_at s i) le near,
     )
 
+pub take-requires : goal.take-requires
+take-requires g c = let s = c.args.shape.now in let i : ℕ = c.loop-i.i in
+    let lt : i < objects_of s = subst (λ (n : ℕ). i < n) c.object_count-count.ensures c.loop-i-test.true in
+    let home = c.requires.there i lt in
+    ap is_some
+    (some-injective c.take-spot.result (Some home.0)
+    (sym c.take-spot.ensures.value
+    ∙ (ap (λ (n : ℕ). get_elem? (slots_items c.loop-i.closed.slots) n) c.slot_index-slot.ensures
+    ∙ (ap (λ l. get_elem? l (slot_at s i)) c.loop-i.invariant.same ∙ home.1))))
+
 pub pass_empty-requires-clause-within : goal.pass_empty-requires-clause-within
 pass_empty-requires-clause-within g c = let s = c.args.shape.now in let i : ℕ = c.loop-i.i in
     let lt : i < objects_of s = subst (λ (n : ℕ). i < n) c.object_count-count.ensures c.loop-i-test.true in (
       subst (λ (y : ℕ × ℕ). y.0 < y.1) (λ q. (sym c.slot_index-slot.ensures q, sym c.slot_index.ensures q))
           (slots_rise s i (i + 1) (omega arith)),
       subst (λ (y : ℕ × ℕ). y.0 ≤ y.1)
-          (λ q. (sym c.slot_index.ensures q, sym (c.take.ensures.others.2 ∙ c.loop-i.invariant.count) q))
+          (λ q. (sym c.slot_index.ensures q, sym (c.take-spot.ensures.others.2 ∙ c.loop-i.invariant.count) q))
           (slots_rise_on s (i + 1) (objects_of s)
           (let n : ℕ = objects_of s in let lt' : i < n = lt in omega (arith, lt'))),
     )
@@ -54,7 +65,7 @@ pass_empty-requires-clause-full g c = λ k low high.
     let is : d ≡ u = c.slot_index-slot.ensures in let end : c.slot_index.result ≡ w = c.slot_index.ensures in
     let most : w ≤ t = slots_rise_on s (i + 1) (objects_of s)
     (let n : ℕ = objects_of s in let lt' : i < n = lt in omega (arith, lt')) in
-    ap (λ l. slice_index_or l k false) c.take.ensures.others.1
+    ap (λ l. slice_index_or l k false) c.take-spot.ensures.others.1
     ∙ (get_or-set_other fs d k false false (λ e. omega (arith, e, low))
     ∙ c.loop-i.invariant.full k (let g : u ≤ k = omega (arith, is, low) in g)
     (let g : k < t = omega (arith, end, most, high) in g))
@@ -63,29 +74,29 @@ pub loop-i-preserved : goal.loop-i-preserved
 loop-i-preserved g c =
     let s = c.args.shape.now in let i : ℕ = c.loop-i.i in let d : ℕ = c.slot_index-slot.result in let fs =
     slots_filled c.loop-i.closed.slots in
-    let xs = slots_items c.loop-i.closed.slots in let ws = c.loop-i.homes.items in let x = c.take.result in
+    let xs = slots_items c.loop-i.closed.slots in let ws = c.loop-i.homes.items in let x = Some c.take.result in
     let lt : i < objects_of s = subst (λ (n : ℕ). i < n) c.object_count-count.ensures c.loop-i-test.true in
     let u : ℕ = slot_at s i in let w : ℕ = slot_at s (i + 1) in let t : ℕ = slots_of s in
     let is : d ≡ u = c.slot_index-slot.ensures in let end : c.slot_index.result ≡ w = c.slot_index.ensures in
     let near : u < t = slots_rise s i (objects_of s) lt in let up : u < w = slots_rise s i (i + 1) (omega arith) in
     let long : length ws ≡ i = search (rules, c.loop-i.invariant.many) in
     let values : slots_items c.pass_empty.new.closed.slots ≡ xs = c.pass_empty.ensures.same.0
-    ∙ c.take.ensures.others.0 in
-    let other : (k : ℕ) → k ≢ d → slice_index_or (slots_filled c.take.new.self.slots) k false
+    ∙ c.take-spot.ensures.others.0 in
+    let other : (k : ℕ) → k ≢ d → slice_index_or (slots_filled c.take-spot.new.self.slots) k false
     ≡ slice_index_or fs k false =
-    (λ k ne. ap (λ l. slice_index_or l k false) c.take.ensures.others.1
+    (λ k ne. ap (λ l. slice_index_or l k false) c.take-spot.ensures.others.1
     ∙ get_or-set_other fs d k false false ne) in
     record {
       many = c.in-Ok.ensures.len ∙ (let a = c.loop-i.invariant.many in omega (arith, a));
       laid = λ k near. ap (λ l. get_elem? l k) c.in-Ok.ensures.items ∙ (dite (ℕ_discrete k i)
           (λ e. at_last ws x k (long ∙ sym e)
-          ∙ (sym c.take.ensures.value ∙ ap (λ (n : ℕ). get_elem? xs n) (is ∙ ap (slot_at s) (sym e))))
+          ∙ (sym (c.take-spot.ensures.value ∙ ap some c.take.ensures.0) ∙ ap (λ (n : ℕ). get_elem? xs n) (is ∙ ap (slot_at s) (sym e))))
           (λ ne. at_left ws x k (subst (λ (n : ℕ). k < n) (sym long) (omega (arith, near, ne)))
           ∙ c.loop-i.invariant.laid k (omega (arith, near, ne)))
           ∙ ap (λ l. get_elem? l (slot_at s k)) (sym values));
       room = (let a = c.loop-i.invariant.room in let b = c.in-Ok.ensures.capacity in omega (arith, a, b));
       same = values ∙ c.loop-i.invariant.same;
-      count = c.pass_empty.ensures.same.1 ∙ (c.take.ensures.others.2 ∙ c.loop-i.invariant.count);
+      count = c.pass_empty.ensures.same.1 ∙ (c.take-spot.ensures.others.2 ∙ c.loop-i.invariant.count);
       full =
           λ k le lt. (let le' : w ≤ k = le in c.pass_empty.ensures.behind k
           (let g : c.slot_index.result ≤ k = omega (arith, le', end) in g)
@@ -93,7 +104,7 @@ loop-i-preserved g c =
           ∙ c.loop-i.invariant.full k (let g : u ≤ k = omega (arith, up, le') in g) lt));
       empty = λ k lt. (let lt' : k < w = lt in dite (dec_le k d)
           (λ le. c.pass_empty.ensures.before k le ∙ dite (ℕ_discrete k d)
-          (λ e. ap (λ l. slice_index_or l k false) c.take.ensures.others.1
+          (λ e. ap (λ l. slice_index_or l k false) c.take-spot.ensures.others.1
           ∙ (ap (λ j. slice_index_or (slice_set fs d false) j false) e
           ∙ get_or-set_same fs d false false
           (let a = (slots_counts c.loop-i.closed.slots).1 in let b = c.loop-i.invariant.count in let n : ℕ =

@@ -13,14 +13,15 @@ loop-home-preserved g c =
     ∙ ap (gap_of s) (c.len.ensures ∙ sym long) in
     let gap' : c.gap_count.result ≡ gap_of s n = c.gap_count.ensures ∙ ap (gap_of s) c.len.ensures in
     let a = c.loop-home.invariant.all in let b = c.in-Some.ensures.len in let d = c.in-Ok.ensures.len in let e =
-    c.leave_empty.ensures.many in
-    let room = c.loop-home.invariant.room in let more = c.leave_empty.ensures.room in let most =
+    c.leave_empty-home.ensures.many in
+    let room = c.loop-home.invariant.room in let more = c.leave_empty-home.ensures.room in let most =
     c.in-Ok.ensures.capacity in
     let kept = c.loop-home.invariant.kept in let same = c.in-Some.ensures.capacity in record {
       order =
           ap (λ l. laid_out s 0 xs ++ reverse l)
-          (c.in-Ok.ensures.items ∙ (ap (λ l. l ++ Some x ∷ [])
-          (c.leave_empty.ensures.items ∙ ap (λ k. slots ++ replicate k None) gap)))
+          (c.in-Ok.ensures.items ∙ ap (λ y. c.leave_empty-home.new.slots.items ++ y ∷ [])
+          (c.of.ensures ∙ ap Some c.leave_empty-home.ensures.same) ∙ (ap (λ l. l ++ Some x ∷ [])
+          (c.leave_empty-home.ensures.items ∙ ap (λ k. slots ++ replicate k None) gap)))
           ∙ (laid_turn s xs x slots ∙ (ap (λ l. laid_out s 0 l ++ reverse slots) (sym c.in-Some.ensures.items)
           ∙ c.loop-home.invariant.order));
       all = (let m : ℕ = vec_len c.loop-home.homes in let after : m ≡ n + 1 = omega (arith, b) in
@@ -44,5 +45,5 @@ unreachable-requires g c =
     let k : ℕ = vec_len c.loop-home.slots in let t : ℕ = slots_of s in let all : w + k
     ≡ t = c.loop-home.invariant.all in
     let room : t ≤ vec_capacity c.loop-home.slots = c.loop-home.invariant.room in let more =
-    c.leave_empty.ensures.room in let e = c.leave_empty.ensures.many in
+    c.leave_empty-home.ensures.room in let e = c.leave_empty-home.ensures.many in
     let full = c.in_default-pushed.ensures.full in omega (arith, gap, next, all, room, more, e, full)

@@ -14,17 +14,18 @@ use Rattle.pool_table.proofs.table.PoolTable.claim.Goals as goal
 pub claim_word-found-requires-clause-named : goal.claim_word-found-requires-clause-named
 claim_word-found-requires-clause-named g c = (refl, refl)
 
-pub exchange-taken-requires : goal.exchange-taken-requires
-exchange-taken-requires g c =
-    let s = c.args.self.now.layout.shape in let i = slot_of s c.args.object in (
-      c.claim_word-found.ensures.same.0 ∙ c.requires.own,
-      took g.H.Told.stands c.args.self.now.layout c.args.object i c.object_slot-slot.result.home
-          c.claim_word-found.result c.args.seat.now.seat.me c.claim_word-found.new.seat.me c.requires.outside.1
-          c.object_slot-slot.ensures.home
-          (got_in g.H.Told.stands c.args.self.now.layout c.args.object c.args.mark
-          (step (slots_of s) (word_of s c.args.object) 1 0 none) c.args.seat.now.seat.me c.claim_word-found.result
-          c.claim_word-found.new.seat.me c.claim_word-found.ensures.told c.if-found-eq1.false),
-    )
+pub taken-home-requires-clause-own : goal.taken-home-requires-clause-own
+taken-home-requires-clause-own g c = c.claim_word-found.ensures.same.0 ∙ c.requires.own
+
+pub taken-home-requires-clause-there : goal.taken-home-requires-clause-there
+taken-home-requires-clause-there g c =
+    let s = c.args.self.now.layout.shape in let i = slot_of s c.args.object in
+    took g.H.Told.stands c.args.self.now.layout c.args.object i c.object_slot-slot.result.home
+    c.claim_word-found.result c.args.seat.now.seat.me c.claim_word-found.new.seat.me c.requires.outside.1
+    c.object_slot-slot.ensures.home
+    (got_in g.H.Told.stands c.args.self.now.layout c.args.object c.args.mark
+    (step (slots_of s) (word_of s c.args.object) 1 0 none) c.args.seat.now.seat.me c.claim_word-found.result
+    c.claim_word-found.new.seat.me c.claim_word-found.ensures.told c.if-found-eq1.false)
 
 pub returns-then-found-eq1-clause-free : goal.returns-then-found-eq1-clause-free
 returns-then-found-eq1-clause-free g c =
@@ -51,8 +52,8 @@ invariant_of-seat-2 g c =
     let s = c.args.seat.now in let v = s.seat.me.0 in
     let l = c.args.self.now.layout in
     record {
-      of_view = fits_as s.number s.letter s.sent.items c.claim_word-found.new.seat.me.0 c.exchange-taken.new.seat.me.0
-          (ap (λ m. m.0) c.exchange-taken.ensures.3)
+      of_view = fits_as s.number s.letter s.sent.items c.claim_word-found.new.seat.me.0 c.taken-home.new.seat.me.0
+          (ap (λ m. m.0) c.taken-home.ensures.out)
           (fits_claims s.number s.letter s.sent.items g.H.Told.stands l c.args.object c.args.mark
           (step (slots_of l.shape) (word_of l.shape c.args.object) 1 0 none) s.seat.me c.claim_word-found.new.seat.me
           c.claim_word-found.result c.claim_word-found.ensures.told s.of_view);

@@ -2,6 +2,8 @@ use Rattle.std.proofs.Common.{rules, ◌≡◌, ◌≤◌, ℕ, length, sym, ap,
 use Rattle.std.specs.Prelude.{filter_map, vec_len, vec_capacity}
 use Rattle.atomic_table.specs.Table.{opening}
 use Rattle.step_law.specs.Settings.{Setting}
+use Rattle.pool_law.specs.Homes.{objects_of}
+use Rattle.pool_table.specs.Slots.{laid_out}
 use Rattle.pool_table.specs.Words.{IsOpening}
 use Rattle.pool_table.specs.Sound.{IsSound}
 use Rattle.pool_table.specs.Steps.{first_view}
@@ -33,14 +35,25 @@ invariant_of-table g c =
       places = c.of-firsts.ensures;
     }
 
+pub unwrapped-requires-clause-laid : goal.unwrapped-requires-clause-laid
+unwrapped-requires-clause-laid g c =
+    let s = c.args.layout.shape in let is = c.in-Err.ensures.err ∙ c.wrapped-slots.ensures.slots in
+    is ∙ ap (laid_out s 0)
+    (sym (ap (λ l. filter_map (λ x. x) l) is ∙ gathered_all s 0 c.args.homes.items))
+
+pub unwrapped-requires-clause-many : goal.unwrapped-requires-clause-many
+unwrapped-requires-clause-many g c =
+    ap length
+    (ap (λ l. filter_map (λ x. x) l) (c.in-Err.ensures.err ∙ c.wrapped-slots.ensures.slots)
+    ∙ gathered_all c.args.layout.shape 0 c.args.homes.items)
+    ∙ c.requires.homes
+
 pub unwrapped-requires-clause-room : goal.unwrapped-requires-clause-room
 unwrapped-requires-clause-room g c =
-    let same = ap (λ l. filter_map (λ x. x) l) (c.in-Err.ensures.err ∙ c.wrapped-slots.ensures.slots)
-    ∙ gathered_all c.args.layout.shape 0 c.args.homes.items in
-    let a = c.wrapped-slots.ensures.homes.1 in let long : length c.args.homes.items
-    ≡ vec_len c.args.homes = search (rules) in
-    subst (λ (n : ℕ). n ≤ vec_capacity c.wrapped-slots.new.homes) (sym (ap length same))
-    (let g : length c.args.homes.items ≤ vec_capacity c.wrapped-slots.new.homes = omega (arith, long, a) in g)
+    let n : ℕ = objects_of c.args.layout.shape in let a = c.wrapped-slots.ensures.homes.1 in
+    let long : length c.args.homes.items ≡ vec_len c.args.homes = search (rules) in
+    let all : length c.args.homes.items ≡ n = c.requires.homes in
+    let out : n ≤ vec_capacity c.wrapped-slots.new.homes = omega (arith, long, a, all) in out
 
 pub returns-clause-err : goal.returns-clause-err
 returns-clause-err g c =

@@ -7,8 +7,9 @@ use Rattle.shared_pool.proofs.PlaceLaws.{is_got}
 use Rattle.shared_pool.proofs.root_place.RootPlace.get.Goals as goal
 
 pub returns-clause-did : goal.returns-clause-did
-returns-clause-did c = let lane = c.args.lane in let at = c.args.offset in let r = c.in-Some.root in
-    is_got c.self.inside r c.record.new.self c.args.self.now c.self.view_is c.in-Some.is lane at (length c.args.out.now)
+returns-clause-did c =
+    let lane = c.args.lane in let at = c.args.offset in let i = c.self.inside in let h = c.in-Some.held in
+    is_got i h c.record.new.self c.args.self.now c.self.view_is c.in-Some.is lane at (length c.args.out.now)
     c.get.new.out c.requires c.get.ensures
-    (ap root_seen c.record.ensures ∙ ap (λ (k : ℕ). accessed (root_seen r) r.piece.bytes (Access.Get lane at k))
-    c.count-len.ensures)
+    (ap (root_seen i.last) c.record.ensures
+    ∙ ap (λ (n : ℕ). accessed (root_seen i.last h) h.piece.bytes (Access.Get lane at n)) c.count-len.ensures)
