@@ -174,8 +174,11 @@ module _ {H : Type 0} (stands : List ℕ → Setting → List Noted → H → Ty
       → (home : H) × (get_elem? slots (slot_at l.shape k) ≡ some (Some home))
   homes_there id v words slots outside all (s, seen, same, long, there) k lt =
       let r = seen.0 in let o = object_at l.shape k lt in
-      let hv = (r.objects o.0 o.1).home_is (nobody_inside s r id v seen.1 all outside (home_of l.shape o.0)) in
-      (hv.0, ap (λ (n : ℕ). get_elem? slots (slot_at l.shape n)) (sym o.2) ∙ there (slot_of l.shape o.0) (Some hv.0) hv.1)
+      let hv = (r.objects o.0 o.1).home_is (nobody_inside s r id v seen.1 all outside (home_of l.shape o.0)) in (
+        hv.0,
+        ap (λ (n : ℕ). get_elem? slots (slot_at l.shape n)) (sym o.2)
+            ∙ there (slot_of l.shape o.0) (Some hv.0) hv.1,
+      )
 
   -- the words and the home values are handed out in the order of the list
   pub closes : (id : ℕ) (v : SeatView) (words out : List ℕ) (slots homes : List (Option H))

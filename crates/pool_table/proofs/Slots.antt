@@ -1,7 +1,6 @@
 -- Each object has a slot of its own among the table's slots. All that proofs need of where slots lie.
 use Rattle.std.proofs.Common.{◌≡◌, ◌≢◌, ℕ, zero, suc, ◌+◌, ◌-◌, ◌*◌, ◌<◌, ◌≤◌, List, [], ◌∷◌, ◌++◌, length, Bool, true, false, cond, nat_lt, refl, sym, ap, ◌∙◌, subst, arith, lt_of_not-le, lt-ltb, le-ltb, append-nil, length-append}
 use Rattle.std.specs.Prelude.{Option, Some, None, filter_map, replicate, slice_get, reverse}
-use Rattle.std.proofs.lemmas.List.Elements.{filter_map-append}
 use Rattle.std.proofs.lemmas.List.{length-replicate, replicate_more, reverse-append, append_assoc}
 use mathlib.Core.Logic.{dite}
 use mathlib.Core.Option.{some}

@@ -65,23 +65,21 @@ module _ {H : Type 0} (s : Shape) where
   values slots = filter_map (λ (x : Option H). x) slots
 
   -- the last value in its slot, and the gap behind it
-  pub last_slot : (slots : List (Option H)) (n : ℕ) → slots ≡ laid_out s 0 (values slots)
-      → length (values slots) ≡ suc n
-      → (ys : List H) × (y : H) × (slots ≡ (laid_out s 0 ys ++ Some y ∷ []) ++ replicate (gap_of s n) None)
-      × (values slots ≡ ys ++ y ∷ []) × (length ys ≡ n)
-  last_slot slots n laid many =
-      let r = last_of (values slots) n many in let ys : List H = r.0 in let y : H = r.1 in
-      let gap : ℕ → List (Option H) = λ k. replicate (gap_of s k) None in
-      let e : 0 + length ys ≡ n = omega (arith, r.3) in (
-        ys,
-        y,
-        laid
-            ∙ (ap (laid_out s 0) r.2
-            ∙ (laid_push s 0 ys y ∙ (ap (λ k. laid_out s 0 ys ++ (Some y ∷ gap k)) e
-            ∙ sym (append_assoc (laid_out s 0 ys) (Some y ∷ []) (gap n))))),
-        r.2,
-        r.3,
-      )
+  pub last_slot : (slots : List (Option H)) (m gap : ℕ) → slots ≡ laid_out s 0 (values slots)
+      → length (values slots) ≡ m → 0 < m → gap ≡ gap_of s (m - 1)
+      → (ys : List H) × (y : H) × (slots ≡ (laid_out s 0 ys ++ Some y ∷ []) ++ replicate gap None)
+      × (values slots ≡ ys ++ y ∷ []) × (length ys ≡ m - 1)
+      × (take (length slots - gap) slots ≡ laid_out s 0 ys ++ Some y ∷ [])
+  last_slot slots m gap laid many some wide =
+      let r = last_of (values slots) (m - 1) (omega (arith, many, some)) in
+      let ys : List H = r.0 in let y : H = r.1 in let long = r.3 in
+      let front : List (Option H) = laid_out s 0 ys ++ Some y ∷ [] in
+      let e : gap_of s (0 + length ys) ≡ gap = ap (gap_of s) (omega (arith, long)) ∙ sym wide in
+      let is : slots ≡ front ++ replicate gap None = laid
+      ∙ (ap (laid_out s 0) r.2
+      ∙ (laid_push s 0 ys y ∙ (ap (λ k. laid_out s 0 ys ++ (Some y ∷ replicate k None)) e
+      ∙ sym (append_assoc (laid_out s 0 ys) (Some y ∷ []) (replicate gap None))))) in
+      (ys, y, is, r.2, long, before_gap slots front gap None is)
 
   -- the value goes to the end of the values that are out, which lie backwards
   pub goes_over : (slots rest : List (Option H)) (out all ys : List H) (y h : H) → values slots ≡ ys ++ y ∷ []

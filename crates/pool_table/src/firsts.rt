@@ -4,7 +4,7 @@ ghost use Rattle.std.specs.Prelude.{◌≡◌, ◌≤◌, ◌<◌, ◌*◌, ◌%
 ghost use Rattle.pool_table.specs.Firsts.{AreFirsts};
 ghost use Rattle.pool_table.specs.Sound.{IsTableShape};
 
-use crate::index::single_count;
+use crate::index::{SLOTS_APART, WORDS_APART, single_count};
 use pool_law::Shape;
 
 /// Where the first root place lies. Another that is packed behind it lies as much further on as its
@@ -30,9 +30,9 @@ impl Firsts {
         let places = shape.lanes as usize * shape.handles as usize;
         Firsts {
             packed,
-            slot: single * 8,
-            word: single * 16,
-            count: single * 16 + places,
+            slot: single * SLOTS_APART,
+            word: single * WORDS_APART,
+            count: single * WORDS_APART + places,
         }
     }
 }
@@ -43,7 +43,7 @@ fn packed_count(shape: &Shape) -> u32
     ensures within { result ≤ shape.now.lanes * shape.now.handles }
     ensures full { 0 < result → shape.now.handles % 16 ≡ 0 }
 {
-    if shape.handles % 16 == 0 {
+    if shape.handles as usize % WORDS_APART == 0 {
         shape.lanes * shape.handles
     } else {
         0

@@ -18,6 +18,15 @@ const CACHES: usize = CACHED_CLASSES as usize;
 // How many it has for its caches and its bin.
 const LANE_HOMES: usize = CACHES + 1;
 
+/// How far the slots of arenas, caches and bins lie apart, which no two lanes use at once then.
+pub(crate) const SLOTS_APART: usize = 8;
+
+// How many slots are empty between two of them.
+const SLOT_GAP: usize = SLOTS_APART - 1;
+
+/// How far the words of arenas, caches and bins lie apart, and those of two lanes' root places.
+pub(crate) const WORDS_APART: usize = 16;
+
 #[inline(always)]
 pub(crate) fn home_index(shape: &Shape, object: Object) -> usize
     requires shape { IsTableShape shape.now }
@@ -58,10 +67,11 @@ pub(crate) fn word_count(shape: &Shape) -> usize
     let lanes = shape.lanes as usize;
     let handles = shape.handles as usize;
     let single = shape.arenas as usize + lanes * LANE_HOMES;
-    single * 16 + 2 * lanes * (handles + (16 - handles % 16) % 16)
+    single * WORDS_APART
+        + 2 * lanes * (handles + (WORDS_APART - handles % WORDS_APART) % WORDS_APART)
 }
 
-/// Where a word of the list lies. With a multiple of 16 handles a lane it divides nothing.
+/// Where a word of the list lies. With as many handles a lane as words fill whole lines it divides nothing.
 #[inline(always)]
 pub(crate) fn word_index(shape: &Shape, listed: usize) -> usize
     requires shape { IsTableShape shape.now }
@@ -71,15 +81,15 @@ pub(crate) fn word_index(shape: &Shape, listed: usize) -> usize
     let lanes = shape.lanes as usize;
     let single = shape.arenas as usize + lanes * LANE_HOMES;
     if listed < single {
-        return listed * 16;
+        return listed * WORDS_APART;
     }
     let handles = shape.handles as usize;
-    let padding = (16 - handles % 16) % 16;
+    let padding = (WORDS_APART - handles % WORDS_APART) % WORDS_APART;
     let packed = listed - single;
     if padding == 0 {
-        return single * 16 + packed;
+        return single * WORDS_APART + packed;
     }
-    single * 16 + (packed + packed / handles * padding)
+    single * WORDS_APART + (packed + packed / handles * padding)
 }
 
 /// Where the word of a root's count lies. No root is at a place that the shape doesn't have, and no
@@ -131,9 +141,9 @@ pub(crate) fn slot_index(shape: &Shape, number: usize) -> usize
 {
     let single = single_count(shape);
     if number < single {
-        number * 8
+        number * SLOTS_APART
     } else {
-        single * 7 + number
+        single * SLOT_GAP + number
     }
 }
 
@@ -149,7 +159,11 @@ pub(crate) fn gap_count(shape: &Shape, number: usize) -> usize
     requires { IsTableShape shape.now }
     ensures { result ≡ gap_of shape.now number }
 {
-    if number < single_count(shape) { 7 } else { 0 }
+    if number < single_count(shape) {
+        SLOT_GAP
+    } else {
+        0
+    }
 }
 
 /// Where an object's home value and its word lie.
@@ -168,8 +182,8 @@ pub(crate) fn object_slot(shape: &Shape, object: Object) -> HomeSlot
         }
     } else {
         HomeSlot {
-            home: number * 8,
-            word: number * 16,
+            home: number * SLOTS_APART,
+            word: number * WORDS_APART,
         }
     }
 }

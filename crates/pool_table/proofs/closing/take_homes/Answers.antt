@@ -26,7 +26,8 @@ loop-i-init g c = let s = c.args.shape.now in record {
 }
 
 pub take-spot-requires : goal.take-spot-requires
-take-spot-requires g c = let s = c.args.shape.now in let i : ℕ = c.loop-i.i in let fs = slots_filled c.loop-i.closed.slots in
+take-spot-requires g c = let s = c.args.shape.now in let i : ℕ = c.loop-i.i in
+    let fs = slots_filled c.loop-i.closed.slots in
     let lt : i < objects_of s = subst (λ (n : ℕ). i < n) c.object_count-count.ensures c.loop-i-test.true in
     let near : slot_at s i < slots_of s = slots_rise s i (objects_of s) lt in
     let le : slot_at s i ≤ slot_at s i = slots_rise_on s i i (omega arith) in (
@@ -90,7 +91,8 @@ loop-i-preserved g c =
       many = c.in-Ok.ensures.len ∙ (let a = c.loop-i.invariant.many in omega (arith, a));
       laid = λ k near. ap (λ l. get_elem? l k) c.in-Ok.ensures.items ∙ (dite (ℕ_discrete k i)
           (λ e. at_last ws x k (long ∙ sym e)
-          ∙ (sym (c.take-spot.ensures.value ∙ ap some c.take.ensures.0) ∙ ap (λ (n : ℕ). get_elem? xs n) (is ∙ ap (slot_at s) (sym e))))
+          ∙ (sym (c.take-spot.ensures.value ∙ ap some c.take.ensures.0)
+          ∙ ap (λ (n : ℕ). get_elem? xs n) (is ∙ ap (slot_at s) (sym e))))
           (λ ne. at_left ws x k (subst (λ (n : ℕ). k < n) (sym long) (omega (arith, near, ne)))
           ∙ c.loop-i.invariant.laid k (omega (arith, near, ne)))
           ∙ ap (λ l. get_elem? l (slot_at s k)) (sym values));

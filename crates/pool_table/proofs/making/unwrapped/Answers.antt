@@ -1,9 +1,9 @@
-use Rattle.std.proofs.Common.{rules, ◌≡◌, ℕ, suc, ◌+◌, ◌-◌, ◌++◌, [], ◌∷◌, length, sym, ap, ◌∙◌, arith, length-append, append-nil, take, drop}
+use Rattle.std.proofs.Common.{rules, ◌≡◌, ℕ, ◌+◌, ◌-◌, ◌++◌, [], ◌∷◌, length, sym, ap, ◌∙◌, arith, length-append, append-nil, take, drop}
 use Rattle.std.proofs.Math.Seq.{take-append_seam}
 use Rattle.std.specs.Prelude.{Some, None, is_some, replicate, filter_map, vec_len, reverse}
 use Rattle.pool_law.specs.Homes.{objects_of}
-use Rattle.pool_table.specs.Slots.{gap_of, laid_out}
-use Rattle.pool_table.proofs.Unwrapping.{last_slot, last_once, before_gap, goes_over, still_laid, none_left, some_once}
+use Rattle.pool_table.specs.Slots.{laid_out}
+use Rattle.pool_table.proofs.Unwrapping.{last_slot, last_once, goes_over, still_laid, none_left, some_once}
 use Rattle.pool_table.proofs.making.unwrapped.Goals as goal
 
 pub loop-left-init : goal.loop-left-init
@@ -22,50 +22,42 @@ loop-left-init g c = record {
 
 pub drop_empty-requires : goal.drop_empty-requires
 drop_empty-requires g c =
-    let s = c.args.shape.now in let slots = c.loop-left.slots.items in let n : ℕ = c.loop-left.left - 1 in
-    let test = c.loop-left-test.true in let left = c.loop-left.invariant.left in let gap : ℕ = c.gap_count.result in
-    let r = last_slot s slots n c.loop-left.invariant.laid (omega (arith, left, test)) in
-    let front = laid_out s 0 r.0 ++ Some r.1 ∷ [] in
-    let is : slots ≡ front ++ replicate gap None = r.2 ∙ ap (λ k. front ++ replicate k None) (sym c.gap_count.ensures) in
-    λ κs below. (below, is ∙ ap (λ l. l ++ replicate gap None) (sym (before_gap slots front gap None is)))
+    let s = c.args.shape.now in let slots = c.loop-left.slots.items in let gap : ℕ = c.gap_count.result in
+    let r = last_slot s slots c.loop-left.left gap c.loop-left.invariant.laid c.loop-left.invariant.left
+    c.loop-left-test.true c.gap_count.ensures in
+    λ κs below. (below, r.2 ∙ ap (λ l. l ++ replicate gap None) (sym r.5))
 
 pub unreachable-requires : goal.unreachable-requires
 unreachable-requires g c =
-    let s = c.args.shape.now in let slots = c.loop-left.slots.items in let n : ℕ = c.loop-left.left - 1 in
-    let test = c.loop-left-test.true in let left = c.loop-left.invariant.left in let gap : ℕ = c.gap_count.result in
-    let r = last_slot s slots n c.loop-left.invariant.laid (omega (arith, left, test)) in
-    let front = laid_out s 0 r.0 ++ Some r.1 ∷ [] in
-    let is : slots ≡ front ++ replicate gap None = r.2 ∙ ap (λ k. front ++ replicate k None) (sym c.gap_count.ensures) in
-    let now = ap length (c.drop_empty.ensures ∙ before_gap slots front gap None is) in
+    let s = c.args.shape.now in let slots = c.loop-left.slots.items in let gap : ℕ = c.gap_count.result in
+    let r = last_slot s slots c.loop-left.left gap c.loop-left.invariant.laid c.loop-left.invariant.left
+    c.loop-left-test.true c.gap_count.ensures in
+    let now = ap length (c.drop_empty.ensures ∙ r.5) in
     let more = length-append (laid_out s 0 r.0) (Some r.1 ∷ []) in
     let long : length c.drop_empty.new.slots.items ≡ vec_len c.drop_empty.new.slots = search (rules) in
     let none = c.in_default.ensures.cases.0 in omega (arith, now, more, long, none)
 
 pub take-requires : goal.take-requires
 take-requires g c =
-    let s = c.args.shape.now in let slots = c.loop-left.slots.items in let n : ℕ = c.loop-left.left - 1 in
-    let test = c.loop-left-test.true in let left = c.loop-left.invariant.left in let gap : ℕ = c.gap_count.result in
-    let r = last_slot s slots n c.loop-left.invariant.laid (omega (arith, left, test)) in
-    let front = laid_out s 0 r.0 ++ Some r.1 ∷ [] in
-    let is : slots ≡ front ++ replicate gap None = r.2 ∙ ap (λ k. front ++ replicate k None) (sym c.gap_count.ensures) in
-    let now = c.drop_empty.ensures ∙ before_gap slots front gap None is in
+    let s = c.args.shape.now in let slots = c.loop-left.slots.items in let gap : ℕ = c.gap_count.result in
+    let r = last_slot s slots c.loop-left.left gap c.loop-left.invariant.laid c.loop-left.invariant.left
+    c.loop-left-test.true c.gap_count.ensures in
     ap is_some
-    (last_once c.pop.new.self.items (laid_out s 0 r.0) c.in-Some.spot (Some r.1) (sym c.in-Some.ensures.items ∙ now)).1
+    (last_once c.pop.new.self.items (laid_out s 0 r.0) c.in-Some.spot (Some r.1)
+    (sym c.in-Some.ensures.items ∙ (c.drop_empty.ensures ∙ r.5))).1
 
 pub loop-left-preserved : goal.loop-left-preserved
 loop-left-preserved g c =
-    let s = c.args.shape.now in let slots = c.loop-left.slots.items in let n : ℕ = c.loop-left.left - 1 in
-    let test = c.loop-left-test.true in let left = c.loop-left.invariant.left in let gap : ℕ = c.gap_count.result in
-    let r = last_slot s slots n c.loop-left.invariant.laid (omega (arith, left, test)) in
-    let front = laid_out s 0 r.0 ++ Some r.1 ∷ [] in
-    let is : slots ≡ front ++ replicate gap None = r.2 ∙ ap (λ k. front ++ replicate k None) (sym c.gap_count.ensures) in
-    let now = c.drop_empty.ensures ∙ before_gap slots front gap None is in
+    let s = c.args.shape.now in let slots = c.loop-left.slots.items in let gap : ℕ = c.gap_count.result in
+    let r = last_slot s slots c.loop-left.left gap c.loop-left.invariant.laid c.loop-left.invariant.left
+    c.loop-left-test.true c.gap_count.ensures in
     let last = last_once c.pop.new.self.items (laid_out s 0 r.0) c.in-Some.spot (Some r.1)
-    (sym c.in-Some.ensures.items ∙ now) in
+    (sym c.in-Some.ensures.items ∙ (c.drop_empty.ensures ∙ r.5)) in
     let same = some_once r.1 c.take.result (sym last.1 ∙ c.take.ensures.0) in
-    let still = still_laid s c.pop.new.self.items r.0 n last.0 r.4 in
-    let many = c.loop-left.invariant.many in let room = c.loop-left.invariant.room in
-    let more = c.in-Ok.ensures.len in let most = c.in-Ok.ensures.capacity in record {
+    let still = still_laid s c.pop.new.self.items r.0 (c.loop-left.left - 1) last.0 r.4 in
+    let test = c.loop-left-test.true in let many = c.loop-left.invariant.many in
+    let room = c.loop-left.invariant.room in let more = c.in-Ok.ensures.len in
+    let most = c.in-Ok.ensures.capacity in record {
       laid = still.0;
       left = still.1;
       order =
@@ -86,7 +78,8 @@ destroy_empty-requires g c =
 pub returns : goal.returns
 returns g c =
     let test = c.loop-left-test.false in let left = c.loop-left.invariant.left in
-    let none = none_left c.args.shape.now c.loop-left.slots.items c.loop-left.invariant.laid (omega (arith, left, test)) in
+    let none = none_left c.args.shape.now c.loop-left.slots.items c.loop-left.invariant.laid
+    (omega (arith, left, test)) in
     let order : reverse c.loop-left.homes.items ≡ filter_map (λ x. x) c.args.slots.items =
     ap (λ l. filter_map (λ x. x) l ++ reverse c.loop-left.homes.items) (sym none)
     ∙ c.loop-left.invariant.order in

@@ -1,6 +1,6 @@
 -- `of` lays the value in. Assumes `Logic`.
 use Rattle.atomic_table.proofs.Names.{◌≡◌, List, [], ◌∷◌, ◌++◌, refl, sym, subst, a_type, Val, inst_fn, SProp, emp, ent, id⊢, ftrue, ‵, raw, ◌⊛◌, ◌$◌, ◌∵◌, !, qed, by, move, keep, drop, split, fsplit, fjoin, fpack, rewrite, suffices, use0, feq_i, of_opd, no_more, and_then, returns, enter, alloc_all, pass_all, free_all, look_at, get, sets, agg, tables, RattleType, Valss, owns, types_at, plain, nothing, param, layouts, alive, Stays, stay_dropped, Goes-dropped, walk_of, fact, fact_i, no, WpFn}
-use Rattle.std.specs.Prelude.{Option, Some}
+use Rattle.std.specs.Prelude.{Some}
 use Rattle.atomic_table.proofs.Walks.{proved_at, leaves}
 use Rattle.ground.proofs.Walks.{Good, one}
 use lib.Dec.{T}
@@ -34,7 +34,8 @@ of_spec 𝓤 𝓛 𝓜 𝓡 wired X L =
     let hs : Stays En.signature.params En.kept = (stay_dropped item no, tt) in
     proved_at 𝓛 En hs c 𝓜 𝓡 (Goes-dropped 𝓛 1 item no (λ κs x f. refl), tt) (#self inst) fn
     (code.unfolded 𝓤 H 𝓜 𝓡 wired (X, tt)) (λ z are.
-    let x : X.Denot = z.0.3.0 in let got = only_one (layout X) z.0.4.0 (((param_laws 0 X L).lawful 𝓛).typed x z.0.4.0 are.0) in
+    let x : X.Denot = z.0.3.0 in let lawful = (param_laws 0 X L).lawful 𝓛 in
+    let got = only_one (layout X) z.0.4.0 (lawful.typed x z.0.4.0 are.0) in
     let u : Val = got.0 in let good : Good R u = got.2 in let v : Val = one u in
     let inner = as_fields (layout X ∷ []) (u ∷ []) (good, tt) in
     let Post : Val → SProp 𝓤 = (walk_of 𝓛 En hs c).post z in
