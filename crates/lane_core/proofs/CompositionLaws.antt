@@ -1,7 +1,6 @@
 -- A composite that is to be made: whether it is too long, its parts, and the work that binds it.
-use Rattle.std.proofs.Common.{◌≡◌, ℕ, zero, suc, ◌+◌, ◌<◌, ◌≤◌, Bool, true, false, List, [], ◌∷◌, ◌++◌, length, map, take, sym, ap, ◌∙◌, subst, arith, Option, Some, None}
-use Rattle.std.proofs.Math.Numerals.{add-one}
-use Rattle.std.specs.Prelude.{All, not, ◌||◌, ◌&&◌, ◌==◌, is_none, slice_get}
+use Rattle.std.proofs.Common.{◌≡◌, ℕ, ◌<◌, ◌≤◌, Bool, true, false, List, [], ◌∷◌, length, map, sym, ap, ◌∙◌, subst, arith, Option, Some, None}
+use Rattle.std.specs.Prelude.{All, not, ◌||◌, ◌&&◌, ◌==◌, is_none}
 use Rattle.std.proofs.lemmas.Bool.{lt-ltb, le-ltb, ltb-false}
 use Rattle.std.proofs.lemmas.List.Elements.{All-nil, All-cons, All-head, All-tail, All-same, All-filter}
 use Rattle.size_classes.specs.Sizes.{class_of}
@@ -13,16 +12,16 @@ use Rattle.pool_law.specs.Limits.{geometry_of}
 use Rattle.pool_law.specs.Refusals.{has_no_class, is_too_long}
 use Rattle.lane_stages.specs.declared.copying.Transfer.{Transfer}
 use Rattle.lane_stages.specs.declared.counts.Counted.{Counted}
-use Rattle.lane_core.specs.declared.context.Context.{Context}
-use Rattle.lane_core.specs.declared.work.Consolidation.{Consolidation}
-use Rattle.lane_core.specs.declared.work.Work.{Work}
-use Rattle.lane_core.specs.declared.work.Work.TheVariants.{Refused, Empty, Cross, End, Bind, Consolidate}
-use Rattle.lane_core.specs.Composing.{IsCandidate, IsConsolidation, IsTransfer}
+use Rattle.lane_context.specs.declared.context.Context.{Context}
+use Rattle.lane_context.specs.declared.work.Consolidation.{Consolidation}
+use Rattle.lane_context.specs.declared.work.Work.{Work}
+use Rattle.lane_context.specs.declared.work.Work.TheVariants.{Refused, Empty, Cross, End, Bind, Consolidate}
+use Rattle.lane_context.specs.Composing.{IsCandidate, IsConsolidation, IsTransfer}
 use Rattle.lane_core.specs.Compositions.{AreJoinable, HasBytes, IsMade, MayMake, joined}
 use Rattle.lane_stages.specs.Counting.{counted}
-use Rattle.lane_core.specs.Named.{IsInRoot}
+use Rattle.lane_context.specs.Named.{IsInRoot}
 use Rattle.lane_stages.specs.Releasings.{AreUncounted}
-use Rattle.lane_core.specs.Works.{IsReady}
+use Rattle.lane_context.specs.Works.{IsReady}
 
 -- ---- Which composites are too long.
 
@@ -62,15 +61,6 @@ module _ (shape : Shape) (c : Composite) where
   has_class class le lt is = by_class le lt ∙ ap (λ (o : Option ℕ). is_none o) is
 
 -- ---- What is copied, and what may be bound.
-
--- one item more from the front of a list
-pub take-get : (ps : List Part) (k : ℕ) (p : Part) → slice_get ps k ≡ Some p → take (k + 1) ps ≡ take k ps ++ p ∷ []
-take-get ps k p is = ap (λ (n : ℕ). take n ps) (add-one k) ∙ go ps k is
-  where
-    go : (qs : List Part) (n : ℕ) → slice_get qs n ≡ Some p → take (suc n) qs ≡ take n qs ++ p ∷ []
-    go [] n there = absurd (cc there)
-    go (q ∷ qs) zero there = let same : q ≡ p = cc there in ap (λ (r : Part). r ∷ []) same
-    go (q ∷ qs) (suc n) there = ap (λ (rs : List Part). q ∷ rs) (go qs n there)
 
 -- what holds of the parts that are copied
 copied : (P : Part → Type 0) (ts : List Transfer) → All P (map (λ t. t.part) ts) → All (λ t. P t.part) ts

@@ -17,23 +17,23 @@ use Rattle.pool_law.specs.Names.{Bound, Composed, composite_in, is_usable, passe
 use Rattle.pool_law.specs.Patterns.{allot}
 use Rattle.pool_law.specs.Readers.{Log, Reader, ◌>>=◌, give, given}
 use Rattle.pool_law.specs.Refusals.{Refusal as Refuses, first_refusal, is_too_long, refusal, refusals, too_long}
-use Rattle.lane_core.specs.declared.access.Refusal.{Refusal}
-use Rattle.lane_core.specs.declared.access.Refusal.TheVariants.{TooLarge}
+use Rattle.lane_context.specs.declared.access.Refusal.{Refusal}
+use Rattle.lane_context.specs.declared.access.Refusal.TheVariants.{TooLarge}
 use Rattle.lane_stages.specs.declared.counts.Counted.{Counted}
-use Rattle.lane_core.specs.declared.context.Context.{Context}
-use Rattle.lane_core.specs.declared.work.Consolidation.{Consolidation}
-use Rattle.lane_core.specs.declared.work.Work.{Work}
-use Rattle.lane_core.specs.declared.work.Work.TheVariants.{Refused, Empty, Cross, End, Bind, Consolidate}
-use Rattle.lane_core.specs.Accesses.{IsState, reply_for}
+use Rattle.lane_context.specs.declared.context.Context.{Context}
+use Rattle.lane_context.specs.declared.work.Consolidation.{Consolidation}
+use Rattle.lane_context.specs.declared.work.Work.{Work}
+use Rattle.lane_context.specs.declared.work.Work.TheVariants.{Refused, Empty, Cross, End, Bind, Consolidate}
+use Rattle.lane_context.specs.Accesses.{IsState, reply_for}
 use Rattle.lane_stages.specs.Budgets.{notes_alone}
-use Rattle.lane_core.specs.Composing.{IsConsolidation}
+use Rattle.lane_context.specs.Composing.{IsConsolidation}
 use Rattle.lane_core.specs.Compositions.{IsMade, joined, readable_at, readable_of, refusals_to_add, refusals_to_compose}
-use Rattle.lane_core.specs.Contexts.{left_for, moves_of}
-use Rattle.lane_core.specs.Named.{bound_at, known_to}
-use Rattle.lane_core.specs.Works.{IsPlanned, IsWithin}
+use Rattle.lane_context.specs.Contexts.{left_for, moves_of}
+use Rattle.lane_context.specs.Named.{bound_at, known_to}
+use Rattle.lane_context.specs.Works.{IsPlanned, IsWithin}
 use Rattle.lane_core.proofs.CompositionTests.{AreShown, IsShown, clear_to_add, first_part, length-readable, one_part, shown_to_compose}
 use Rattle.lane_core.proofs.RefusalLists.{first_refusal-append}
-use Rattle.lane_core.proofs.StateReads.{goes, named_so, refuses, viewed}
+use Rattle.lane_context.proofs.StateReads.{goes, named_so, refuses, viewed}
 
 module _ (s : LaneState) (names : List (Option Bound)) (cs : List Counted) (state : IsState s names cs) where
   -- ---- The law's refusals are those of what the lane keeps.

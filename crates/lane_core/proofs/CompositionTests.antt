@@ -14,7 +14,7 @@ use Rattle.pool_law.specs.Refusals.{Refusal, first_refusal}
 use Rattle.lane_stages.specs.declared.counts.Counted.{Counted}
 use Rattle.lane_core.specs.Compositions.{counts_in, is_composite, is_illegal, is_plain, is_taken, is_unbound, readable_at, readable_in, readable_of, refusals_to_add, refusals_to_compose}
 use Rattle.lane_stages.specs.Counting.{counted}
-use Rattle.lane_core.specs.Named.{bound_at}
+use Rattle.lane_context.specs.Named.{bound_at}
 use Rattle.lane_core.specs.Plans.{IsUsable}
 use Rattle.lane_core.proofs.RefusalLists.{each, first_refusal-append, first_of_each, none_passes}
 

@@ -9,13 +9,13 @@ use Rattle.pool_law.specs.Names.{Composed}
 use Rattle.pool_law.specs.Refusals.{first_refusal}
 use Rattle.composite_buf.specs.Maps.{Fits}
 use Rattle.composite_buf.proofs.MapLaws.{size_of-append}
-use Rattle.lane_core.specs.declared.context.Context.{Context}
+use Rattle.lane_context.specs.declared.context.Context.{Context}
 use Rattle.lane_core.specs.Compositions.{IsPlaced, MayMake, joined, readable_at, readable_of, refusals_to_add, refusals_to_compose}
 use Rattle.lane_stages.specs.Counting.{counted}
-use Rattle.lane_core.specs.Contexts.{FitsContext}
-use Rattle.lane_core.specs.Named.{AreComposites, AreInside, IsInRoot, bound_at, known_to}
+use Rattle.lane_context.specs.Contexts.{FitsContext}
+use Rattle.lane_context.specs.Named.{AreComposites, AreInside, IsInRoot, bound_at, known_to}
 use Rattle.lane_core.proofs.CompositionTests.{clear_to_add, counts-readable, length-readable, one_part, shown_to_compose}
-use Rattle.lane_core.proofs.NameLaws.{bound_within}
+use Rattle.lane_context.proofs.NameLaws.{bound_within}
 
 module _ (d : Context) where
   abbrev IsCounted : Part → Type 0

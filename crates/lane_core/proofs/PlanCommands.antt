@@ -10,18 +10,18 @@ use Rattle.pool_law.specs.LaneStates.{LaneState, named}
 use Rattle.pool_law.specs.Lanes.{answer, answer_of, get_at, get_parts, release_of, release_parts, set_at, set_parts}
 use Rattle.pool_law.specs.Names.{Bound, Composed, Names, bind, composite_in, has_range, has_room, has_to_read, parts_at, read_on, reader_of, writer_of, written_on}
 use Rattle.pool_law.specs.Readers.{Log, ◌>>=◌, ◌>>◌, give, given}
-use Rattle.lane_core.specs.declared.access.Refusal.{Refusal}
-use Rattle.lane_core.specs.declared.composed.Marks.{Marks}
+use Rattle.lane_context.specs.declared.access.Refusal.{Refusal}
+use Rattle.lane_context.specs.declared.composed.Marks.{Marks}
 use Rattle.lane_stages.specs.declared.crossing.Crossing.{Crossing}
-use Rattle.lane_core.specs.declared.context.Context.{Context}
-use Rattle.lane_core.specs.declared.work.Work.TheVariants.{End, Refused}
-use Rattle.lane_core.specs.Accesses.{IsState}
-use Rattle.lane_core.specs.Composing.{changed, rebound, released}
-use Rattle.lane_core.specs.Named.{AreComposites, AreInside, bound_at, known_to}
+use Rattle.lane_context.specs.declared.context.Context.{Context}
+use Rattle.lane_context.specs.declared.work.Work.TheVariants.{End, Refused}
+use Rattle.lane_context.specs.Accesses.{IsState}
+use Rattle.lane_context.specs.Composing.{changed, rebound, released}
+use Rattle.lane_context.specs.Named.{AreComposites, AreInside, bound_at, known_to}
 use Rattle.lane_core.specs.Plans.{GetsAt, IsDenied, IsPlanOf, IsUsable, SetsAt, work_on}
-use Rattle.lane_core.specs.Works.{reads}
+use Rattle.lane_context.specs.Works.{reads}
 use Rattle.lane_core.proofs.PlanReads.{getting, held, makes, marks_moved, refusing, setting}
-use Rattle.lane_core.proofs.StateReads.{goes_composite, named_so}
+use Rattle.lane_context.proofs.StateReads.{goes_composite, named_so}
 
 module _ (d : Context) (composites : AreComposites d.composes (1 + length d.replies.items) d.names)
     (lies : AreInside (known_to d.seat) d.names) (name : ℕ) (c : Composite)

@@ -14,10 +14,10 @@ use Rattle.composite_buf.proofs.RangeLaws.{All-ranges, size_of-ranges}
 use Rattle.lane_stages.specs.declared.counts.Counted.{Counted}
 use Rattle.lane_stages.specs.declared.crossing.Crossing.TheVariants.{Set, Get}
 use Rattle.lane_stages.specs.declared.crossing.Stretch.{Stretch}
-use Rattle.lane_core.specs.Composing.{IsReachable}
+use Rattle.lane_context.specs.Composing.{IsReachable}
 use Rattle.lane_stages.specs.Counting.{counted}
 use Rattle.lane_stages.specs.Crossings.{bytes_of, parts_of}
-use Rattle.lane_core.specs.Named.{IsInRoot}
+use Rattle.lane_context.specs.Named.{IsInRoot}
 use Rattle.lane_core.specs.Plans.{AreUsable, GetsAt, IsSized, SetsAt}
 
 -- ---- One stretch more.

@@ -16,25 +16,25 @@ use Rattle.pool_law.specs.Lanes.{answer, answer_by, answer_of, carried_out, get_
 use Rattle.pool_law.specs.Names.{Bound, Composed, Names, bind, composite_in, is_usable, passes}
 use Rattle.pool_law.specs.Readers.{Log, Reader, ◌>>=◌, ◌>>◌, give}
 use Rattle.pool_law.specs.Refusals.{Refusal as Refuses, first_refusal, illegal, refusal, refusals, unbound}
-use Rattle.lane_core.specs.declared.access.Refusal.{Refusal}
-use Rattle.lane_core.specs.declared.access.Refusal.TheVariants.{Unbound, Taken, Composite as NoComposite, Illegal, Range, Plain as NotComposite, TooLarge}
-use Rattle.lane_core.specs.declared.composed.Marks.{Marks}
+use Rattle.lane_context.specs.declared.access.Refusal.{Refusal}
+use Rattle.lane_context.specs.declared.access.Refusal.TheVariants.{Unbound, Taken, Composite as NoComposite, Illegal, Range, Plain as NotComposite, TooLarge}
+use Rattle.lane_context.specs.declared.composed.Marks.{Marks}
 use Rattle.lane_stages.specs.declared.counts.Counted.{Counted}
 use Rattle.lane_stages.specs.declared.crossing.Crossing.{Crossing}
 use Rattle.lane_stages.specs.declared.crossing.Crossing.TheVariants.{Set, Get}
-use Rattle.lane_core.specs.declared.context.Context.{Context}
-use Rattle.lane_core.specs.declared.work.Work.TheVariants.{Refused}
-use Rattle.lane_core.specs.Accesses.{IsState, reply_for}
+use Rattle.lane_context.specs.declared.context.Context.{Context}
+use Rattle.lane_context.specs.declared.work.Work.TheVariants.{Refused}
+use Rattle.lane_context.specs.Accesses.{IsState, reply_for}
 use Rattle.lane_stages.specs.Budgets.{notes_alone}
-use Rattle.lane_core.specs.Composing.{MarksFit, crossed, marked, set_marks, rebound}
+use Rattle.lane_context.specs.Composing.{MarksFit, crossed, marked, set_marks, rebound}
 use Rattle.lane_core.specs.Compositions.{counts_in}
 use Rattle.lane_stages.specs.Crossings.{bytes_of, parts_of, stretches}
-use Rattle.lane_core.specs.Contexts.{left_for}
-use Rattle.lane_core.specs.Named.{AreComposites, AreInside, bound_at, known_to}
+use Rattle.lane_context.specs.Contexts.{left_for}
+use Rattle.lane_context.specs.Named.{AreComposites, AreInside, bound_at, known_to}
 use Rattle.lane_core.specs.Plans.{AreUsable, Gets, IsDenied, IsPlanOf, IsUsable, Sets, work_on}
-use Rattle.lane_core.specs.Works.{IsReady, IsWithin, left_of, reads}
+use Rattle.lane_context.specs.Works.{IsReady, IsWithin, left_of, reads}
 use Rattle.lane_core.proofs.CompositionTests.{usable_so}
-use Rattle.lane_core.proofs.StateReads.{comes_first, goes, is_bound, named_so, passed, refuses}
+use Rattle.lane_context.proofs.StateReads.{comes_first, goes, is_bound, named_so, passed, refuses}
 
 -- ---- How many notes.
 

@@ -7,15 +7,15 @@ use Rattle.pool_law.specs.declared.run.Reply.{Reply}
 use Rattle.pool_law.specs.Composites.{Composite, is_crowded, readable, size_of}
 use Rattle.pool_law.specs.Names.{Bound, Plain, Composed, composite_in, is_usable, passes, view_in}
 use Rattle.pool_law.specs.Refusals.{Refusal, is_too_long, refusal}
-use Rattle.lane_core.specs.declared.access.Refusal.TheVariants.{TooLarge}
+use Rattle.lane_context.specs.declared.access.Refusal.TheVariants.{TooLarge}
 use Rattle.lane_stages.specs.declared.copying.Transfer.{Transfer}
 use Rattle.lane_stages.specs.declared.counts.Counted.{Counted}
-use Rattle.lane_core.specs.declared.context.Context.{Context}
-use Rattle.lane_core.specs.declared.work.Work.{Work}
-use Rattle.lane_core.specs.declared.work.Work.TheVariants.{Refused, Empty, Cross, End, Bind, Consolidate}
-use Rattle.lane_core.specs.Composing.{IsConsolidation}
+use Rattle.lane_context.specs.declared.context.Context.{Context}
+use Rattle.lane_context.specs.declared.work.Work.{Work}
+use Rattle.lane_context.specs.declared.work.Work.TheVariants.{Refused, Empty, Cross, End, Bind, Consolidate}
+use Rattle.lane_context.specs.Composing.{IsConsolidation}
 use Rattle.lane_stages.specs.Counting.{counted}
-use Rattle.lane_core.specs.Named.{IsInRoot, bound_at, known_to}
+use Rattle.lane_context.specs.Named.{IsInRoot, bound_at, known_to}
 
 -- ---- The tests of the law, of what a lane keeps of its names and counts.
 

@@ -6,22 +6,22 @@ use Rattle.pool_law.specs.declared.id.RootId.{RootId}
 use Rattle.pool_law.specs.declared.run.Reply.{Reply}
 use Rattle.pool_law.specs.Composites.{Composite, ranges}
 use Rattle.pool_law.specs.LaneStates.{LaneState}
-use Rattle.lane_core.specs.declared.access.Refusal.{Refusal}
-use Rattle.lane_core.specs.declared.access.Refusal.TheVariants.{Illegal, Range}
-use Rattle.lane_core.specs.declared.composed.Marks.{Marks}
+use Rattle.lane_context.specs.declared.access.Refusal.{Refusal}
+use Rattle.lane_context.specs.declared.access.Refusal.TheVariants.{Illegal, Range}
+use Rattle.lane_context.specs.declared.composed.Marks.{Marks}
 use Rattle.lane_stages.specs.declared.counts.Counted.{Counted}
 use Rattle.lane_stages.specs.declared.crossing.Crossing.{Crossing}
 use Rattle.lane_stages.specs.declared.crossing.Crossing.TheVariants.{Set, Get}
 use Rattle.lane_stages.specs.declared.crossing.Stretch.{Stretch}
-use Rattle.lane_core.specs.declared.context.Context.{Context}
-use Rattle.lane_core.specs.declared.work.Work.{Work}
-use Rattle.lane_core.specs.declared.work.Work.TheVariants.{Cross, Empty}
-use Rattle.lane_core.specs.Accesses.{IsState}
-use Rattle.lane_core.specs.Composing.{AreReachable}
+use Rattle.lane_context.specs.declared.context.Context.{Context}
+use Rattle.lane_context.specs.declared.work.Work.{Work}
+use Rattle.lane_context.specs.declared.work.Work.TheVariants.{Cross, Empty}
+use Rattle.lane_context.specs.Accesses.{IsState}
+use Rattle.lane_context.specs.Composing.{AreReachable}
 use Rattle.lane_stages.specs.Counting.{counted}
 use Rattle.lane_stages.specs.Crossings.{bytes_of, parts_of, stretches}
-use Rattle.lane_core.specs.Named.{IsInRoot}
-use Rattle.lane_core.specs.Works.{IsPlanned, IsReady, IsUnplanned}
+use Rattle.lane_context.specs.Named.{IsInRoot}
+use Rattle.lane_context.specs.Works.{IsPlanned, IsReady, IsUnplanned}
 
 -- a composite that has not ended, whose parts' roots are counted
 pub record IsUsable (cs : List Counted) (c : Composite) : Type 0 where

@@ -3,13 +3,11 @@
 ghost use Rattle.std.specs.Prelude.{◌≡◌, option_map};
 ghost use Rattle.std.specs.List.{list_any};
 ghost use Rattle.pool_law.specs.Refusals.{first_refusal};
-ghost use Rattle.lane_core.specs.Accesses.{reply_for};
+ghost use Rattle.lane_context.specs.Accesses.{reply_for};
 ghost use Rattle.lane_core.specs.Compositions.{is_composite, is_illegal, is_plain, is_unbound, refusals_to_add, refusals_to_compose};
 
-use crate::access::Refusal;
-use crate::bound::Bound;
-use crate::names::Names;
 use crate::planning::is_usable;
+use lane_context::{Bound, Names, Refusal};
 use lane_stages::OwnCounts;
 
 /// Why no composite is made of these names, if none is.

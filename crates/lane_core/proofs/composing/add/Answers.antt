@@ -6,10 +6,10 @@ use Rattle.pool_law.specs.declared.id.Part.{Part}
 use Rattle.pool_law.specs.Composites.{Composite}
 use Rattle.pool_law.specs.LaneStates.{LaneState}
 use Rattle.composite_buf.specs.Maps.{Fits}
-use Rattle.lane_core.specs.Accesses.{IsState}
+use Rattle.lane_context.specs.Accesses.{IsState}
 use Rattle.lane_core.specs.Compositions.{IsMade, MayMake, joined, readable_at}
-use Rattle.lane_core.specs.Named.{known_to}
-use Rattle.lane_core.specs.Works.{IsPlanned, IsReady}
+use Rattle.lane_context.specs.Named.{known_to}
+use Rattle.lane_context.specs.Works.{IsPlanned, IsReady}
 use Rattle.lane_core.proofs.CompositionLaws.{is_ready}
 use Rattle.lane_core.proofs.CompositionReads.{adds, refuses_to_add}
 use Rattle.lane_core.proofs.Makeable.{may_add}

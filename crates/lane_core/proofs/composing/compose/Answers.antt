@@ -3,10 +3,10 @@ use Rattle.std.proofs.lemmas.Result.{IfOk-weaker}
 use Rattle.pool_law.specs.declared.command.Command.{Command}
 use Rattle.pool_law.specs.declared.id.Part.{Part}
 use Rattle.pool_law.specs.LaneStates.{LaneState}
-use Rattle.lane_core.specs.Accesses.{IsState}
+use Rattle.lane_context.specs.Accesses.{IsState}
 use Rattle.lane_core.specs.Compositions.{IsMade, joined}
-use Rattle.lane_core.specs.Named.{known_to}
-use Rattle.lane_core.specs.Works.{IsPlanned, IsReady}
+use Rattle.lane_context.specs.Named.{known_to}
+use Rattle.lane_context.specs.Works.{IsPlanned, IsReady}
 use Rattle.lane_core.proofs.CompositionLaws.{is_ready}
 use Rattle.lane_core.proofs.CompositionReads.{composes, refuses_to_compose}
 use Rattle.lane_core.proofs.Makeable.{may_compose}

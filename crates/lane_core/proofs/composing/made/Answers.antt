@@ -4,7 +4,7 @@ use Rattle.pool_law.specs.declared.id.Part.{Part}
 use Rattle.pool_law.specs.Composites.{Composite, filled, most_bytes, most_parts, size_of}
 use Rattle.pool_law.specs.Limits.{geometry_of}
 use Rattle.lane_core.specs.Compositions.{joined}
-use Rattle.lane_core.specs.Named.{known_to}
+use Rattle.lane_context.specs.Named.{known_to}
 use Rattle.lane_core.proofs.CompositionLaws.{has_class, is_consolidation, is_crowded_so}
 use Rattle.lane_core.proofs.composing.made.Goals as goal
 

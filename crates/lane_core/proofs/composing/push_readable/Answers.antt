@@ -8,8 +8,8 @@ use Rattle.pool_law.specs.Composites.{readable}
 use Rattle.pool_law.specs.Names.{Bound, Plain}
 use Rattle.pool_law.specs.Views.{LiesIn}
 use Rattle.lane_core.specs.Compositions.{readable_at, readable_in}
-use Rattle.lane_core.specs.Named.{AreInside, IsInRoot, bound_at, bound_of}
-use Rattle.lane_core.specs.declared.bound.Bound.{Bound as HeldBound}
+use Rattle.lane_context.specs.Named.{AreInside, IsInRoot, bound_at, bound_of}
+use Rattle.lane_context.specs.declared.bound.Bound.{Bound as HeldBound}
 use Rattle.lane_core.proofs.composing.push_readable.Goals as goal
 
 -- what can be read of a view lies in what is known of its root, as the view does

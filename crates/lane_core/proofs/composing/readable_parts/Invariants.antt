@@ -2,7 +2,7 @@ use Rattle.std.proofs.Common.{◌≡◌, ◌≤◌, ℕ, length, take}
 use Rattle.std.specs.Prelude.{All, vec_capacity}
 use Rattle.pool_law.specs.declared.id.RootId.{RootId}
 use Rattle.lane_core.specs.Compositions.{IsPlaced, readable_of}
-use Rattle.lane_core.specs.Named.{AreInside, IsInRoot}
+use Rattle.lane_context.specs.Named.{AreInside, IsInRoot}
 use Rattle.lane_core.proofs.composing.readable_parts.Given as goal
 
 abbrev pub invariant-loop-name : goal.invariant-loop-name

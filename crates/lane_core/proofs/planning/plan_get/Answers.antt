@@ -1,7 +1,7 @@
 use Rattle.std.proofs.Common.{false, None, Some, sym, ◌∙◌, subst}
 use Rattle.pool_law.specs.declared.command.Command.{Command}
 use Rattle.pool_law.specs.declared.run.Reply.{Reply}
-use Rattle.lane_core.specs.declared.work.Work.{Work}
+use Rattle.lane_context.specs.declared.work.Work.{Work}
 use Rattle.lane_core.specs.Plans.{IsPlanOf, work_on}
 use Rattle.lane_core.proofs.PlanCommands.{get_planned, get_refused}
 use Rattle.lane_core.proofs.planning.plan_get.Goals as goal

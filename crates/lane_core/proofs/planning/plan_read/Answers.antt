@@ -2,7 +2,7 @@ use Rattle.std.proofs.Common.{◌-◌, ◌+◌, Some, sym, ◌∙◌, subst, ari
 use Rattle.std.specs.Prelude.{nat_le}
 use Rattle.pool_law.specs.declared.command.Command.{Command}
 use Rattle.pool_law.specs.declared.run.Reply.{Reply}
-use Rattle.lane_core.specs.declared.work.Work.{Work}
+use Rattle.lane_context.specs.declared.work.Work.{Work}
 use Rattle.lane_core.specs.Plans.{IsPlanOf, work_on}
 use Rattle.lane_core.proofs.PlanCommands.{read_planned, read_refused}
 use Rattle.lane_core.proofs.planning.plan_read.Goals as goal

@@ -1,6 +1,6 @@
 use Rattle.std.proofs.Common.{false, Some, sym, ◌∙◌, subst}
 use Rattle.pool_law.specs.declared.command.Command.{Command}
-use Rattle.lane_core.specs.declared.work.Work.{Work}
+use Rattle.lane_context.specs.declared.work.Work.{Work}
 use Rattle.lane_core.specs.Plans.{IsPlanOf}
 use Rattle.lane_core.proofs.PlanCommands.{set_planned, set_refused}
 use Rattle.lane_core.proofs.planning.plan_set.Goals as goal

@@ -3,7 +3,7 @@ use Rattle.std.specs.Prelude.{not}
 use Rattle.pool_law.specs.Composites.{Composite}
 use Rattle.pool_law.specs.Names.{Bound, Composed, is_usable, passes}
 use Rattle.lane_core.specs.Compositions.{counts_in}
-use Rattle.lane_core.specs.Named.{bound_at}
+use Rattle.lane_context.specs.Named.{bound_at}
 use Rattle.lane_core.proofs.CompositionTests.{usable_so}
 use Rattle.lane_core.proofs.refusing.is_illegal.Goals as goal
 
