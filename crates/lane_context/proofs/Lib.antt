@@ -1,6 +1,4 @@
 pub mod NameLaws
-pub mod AccessLaws
-pub mod AccessNames
 pub mod Ways
 pub mod ReadLaws
 pub mod StateReads

@@ -1,11 +1,11 @@
 -- What a command that accesses bytes is prepared for, and how the law reads it.
-use Rattle.std.specs.Prelude.{◌≡◌, ℕ, ◌+◌, ◌<◌, ◌≤◌, Bool, true, false, ⊤, List, length, slice_set, Option, Some, None, Result, Ok, Err, if◌then◌else◌}
+use Rattle.std.specs.Prelude.{◌≡◌, ℕ, ◌+◌, ◌<◌, ◌≤◌, Bool, false, ⊤, List, length, slice_set, Option, Some, None, if◌then◌else◌}
 use Rattle.pool_law.specs.declared.command.Command.{Command}
 use Rattle.pool_law.specs.declared.id.RootId.{RootId}
 use Rattle.pool_law.specs.declared.id.ViewData.{ViewData}
 use Rattle.pool_law.specs.declared.run.Reply.{Reply}
 use Rattle.pool_law.specs.declared.run.Shape.{Shape}
-use Rattle.pool_law.specs.Views.{LiesIn, root_index}
+use Rattle.pool_law.specs.Views.{LiesIn}
 use Rattle.pool_law.specs.Bounds.{most_notes}
 use Rattle.pool_law.specs.Dids as says
 use Rattle.pool_law.specs.Readers.{Log, Reader, ◌>>=◌, ◌>>◌, give, access}
@@ -90,22 +90,6 @@ IsOwned names cs name (OwnView v) =
 IsOwned names cs name (OwnComposite count) =
     (c : LawComposite) × (bound_at names name ≡ Some (Composed c)) × (c.count ≡ count) × (0 < count)
 
--- a range of the view of a name that passes the test: where it begins, and what the view is behind
--- the access
-pub record IsReached (names : List (Option Bound)) (cs : List Counted) (name : ℕ) (tries : Bool)
-    (test : ViewData → Bool) (index : ViewData → ℕ) (behind : ViewData → ViewData) (r : Reach) :
-    Type 0
-  where
-    pub view : ViewData
-    pub bound : bound_at names name ≡ Some (Plain view)
-    pub counts : 0 < counted cs view.root
-    pub passes : test view ≡ true
-    pub root : r.root ≡ view.root
-    pub offset : r.offset ≡ root_index view (index view)
-    pub after : r.after.at ≡ behind view
-    pub name_is : r.name ≡ name
-    pub tries_is : r.tries ≡ tries
-
 -- so many bytes of a root that the lane counts, from the offset on, lie in what is known of it; and
 -- so does the view that the name is bound to afterwards, which is one of this root
 pub record Reaches (known : RootId → ℕ) (cs : List Counted) (len : ℕ) (r : Reach) : Type 0 where
@@ -159,19 +143,6 @@ pub record IsPrepared (names : List (Option Bound)) (cs : List Counted) (command
   pub read : (shape : Shape) (lane : ℕ) (log : Log) →
       answer_of shape lane s command log ≡ reads s bound made log
 
--- the access of a set, of where it reaches
-abbrev pub IsMadeSet : Result Reach Refusal → List ℕ → Access → Type 0
-IsMadeSet (Ok reach) bytes (Set other copy) = (other ≡ reach) × (copy.items ≡ bytes)
-IsMadeSet (Err refusal) bytes (Refused other) = other ≡ refusal
-IsMadeSet _ bytes _ = ⊥
-
--- and of a get, with room for its note and its reply
-abbrev pub IsMadeGet : Result Reach Refusal → ℕ → Access → Type 0
-IsMadeGet (Ok reach) len (Get other note reply) =
-    (other ≡ reach) × (length note.items ≡ len) × (length reply.items ≡ len)
-IsMadeGet (Err refusal) len (Refused other) = other ≡ refusal
-IsMadeGet _ len _ = ⊥
-
 -- a command accesses bytes
 abbrev pub IsAccess : Command → Type 0
 IsAccess (Command.Set name at bytes tries) = ⊤
@@ -179,9 +150,3 @@ IsAccess (Command.Get name at len tries) = ⊤
 IsAccess (Command.Write name bytes) = ⊤
 IsAccess (Command.Read name len) = ⊤
 IsAccess _ = ⊥
-
--- the name that an access binds, if it does, is below this
-abbrev pub BindsBelow : ℕ → Access → Type 0
-BindsBelow count (Refused refusal) = ⊤
-BindsBelow count (Set reach bytes) = reach.name < count
-BindsBelow count (Get reach note reply) = reach.name < count

@@ -13,15 +13,13 @@ mod counting;
 mod names;
 mod passing;
 mod regrowing;
-mod spending;
 mod sweeping;
 mod work;
 mod working;
 
-pub use access::{Access, Reach, Refusal, prepare};
+pub use access::{Access, Reach, Refusal, counted};
 pub use bound::Bound;
 pub use composed::{Composed, Marks};
 pub use context::{Context, SWEEP_PERIOD, Stage, Turn};
 pub use names::Names;
-pub use spending::spend;
 pub use work::{Consolidation, Work};

@@ -9,7 +9,7 @@ use Rattle.lane_context.specs.declared.context.Context.{Context}
 use Rattle.lane_context.specs.declared.context.Stage.{Stage}
 use Rattle.lane_context.specs.declared.context.Stage.TheVariants.{Ready}
 use Rattle.lane_core.specs.declared.lane.Lane.{Lane}
-use Rattle.lane_context.specs.Accesses.{BindsBelow}
+use Rattle.lane_plans.specs.Reaching.{BindsBelow}
 use Rattle.lane_stages.specs.Budgets.{Left}
 use Rattle.lane_context.specs.Contexts.{AccessFits, IsContext, hand_of, left_for}
 use Rattle.lane_context.specs.ContextSteps.{MayTurn}

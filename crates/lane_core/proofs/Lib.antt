@@ -2,11 +2,6 @@ pub mod RoomLaws
 pub mod OpenedLaws
 pub mod GrowWays
 pub mod StageWays
-pub mod RefusalLists
-pub mod CompositionTests
-pub mod CompositionLaws
-pub mod CompositionReads
-pub mod Makeable
 pub mod StageKinds
 pub mod LaneLogs
 pub mod LaneRooms
@@ -21,9 +16,6 @@ pub mod LaneKept
 pub mod LaneTurns
 pub mod Carrying
 pub mod LaneCloses
-pub mod PlanReads
-pub mod PlanParts
-pub mod PlanCommands
 mod PlayedLists
 mod PlayedRoom
 mod PlayedSeats

@@ -1,5 +1,3 @@
-pub mod Plans
-pub mod Compositions
 pub mod Prepared
 pub mod Lanes
 pub mod Opened

@@ -5,7 +5,8 @@ use Rattle.pool_law.specs.LaneStates.{LaneState}
 use Rattle.lane_context.specs.declared.context.Context.{Context}
 use Rattle.lane_core.specs.declared.prepared.Prepared.{Prepared}
 use Rattle.lane_core.specs.declared.prepared.Prepared.TheVariants.{Work, Access, Alone}
-use Rattle.lane_context.specs.Accesses.{BindsBelow, IsAccess, IsPrepared, IsState}
+use Rattle.lane_plans.specs.Reaching.{BindsBelow}
+use Rattle.lane_context.specs.Accesses.{IsAccess, IsPrepared, IsState}
 use Rattle.lane_context.specs.Works.{IsPlanned, IsReady, IsUnplanned}
 
 -- it is what the command needs at the context

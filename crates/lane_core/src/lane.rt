@@ -12,7 +12,8 @@ mod stepping;
 
 use crate::room::{makes_composites, name_count, note_bound};
 use crate::spare::Spare;
-use lane_context::{Context, Names, Stage, spend};
+use crate::spending::spend;
+use lane_context::{Context, Names, Stage};
 use lane_stages::{Draining, OwnCounts, lane_of};
 use leak_records::Sampler;
 use pool_law::{Answered, CommandList, LaneLog, Note, NoteList, ReplyList, Shape};

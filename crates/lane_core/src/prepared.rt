@@ -9,8 +9,8 @@ ghost use Rattle.lane_context.specs.ContextSteps.{MayTurn, Turns};
 ghost use Rattle.lane_context.specs.Named.{AreComposites, AreInside, known_to};
 ghost use Rattle.lane_core.specs.Prepared.{IsPreparedFor};
 
-use crate::planning::plan;
-use lane_context::{Access, Context, Turn, Work, prepare};
+use lane_context::{Access, Context, Turn, Work};
+use lane_plans::{plan, prepare};
 use pool_law::Command;
 use shared_pool::SharedPool;
 use std::alloc::{AllocError, Global};

@@ -3,7 +3,8 @@ use Rattle.std.specs.Prelude.{IfNone, IfSome}
 use Rattle.pool_law.specs.LaneStates.{LaneState}
 use Rattle.lane_context.specs.declared.access.Access.{Access}
 use Rattle.lane_context.specs.declared.work.Work.{Work}
-use Rattle.lane_context.specs.Accesses.{BindsBelow, IsAccess, IsPrepared, IsState}
+use Rattle.lane_plans.specs.Reaching.{BindsBelow}
+use Rattle.lane_context.specs.Accesses.{IsAccess, IsPrepared, IsState}
 use Rattle.lane_context.specs.Works.{IsPlanned, IsReady, IsUnplanned}
 use Rattle.lane_core.proofs.prepared.provide.Goals as goal
 
