@@ -7,7 +7,7 @@ use Rattle.pool_law.specs.declared.command.Command.{Command}
 use Rattle.pool_law.specs.declared.run.Shape.{Shape}
 use Rattle.pool_law.specs.Legal.{fits_after, all_fit}
 use Rattle.pool_law.proofs.PatternLemmas.{both_true}
-use Rattle.lane_core.specs.Contexts.{moves_of, sends_of}
+use Rattle.lane_context.specs.Contexts.{moves_of, sends_of}
 use Rattle.lane_core.specs.Lanes.{left_for_each}
 use Rattle.lane_cases.specs.Plain.{is_plain}
 

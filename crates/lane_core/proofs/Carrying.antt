@@ -3,18 +3,18 @@ use Rattle.std.proofs.Common.{◌≡◌, ◌<◌, List, ◌∷◌, length, subst
 use Rattle.std.specs.Prelude.{vec_capacity}
 use Rattle.pool_law.specs.declared.command.Command.{Command}
 use Rattle.shared_pool.specs.declared.pool.SharedPool.{SharedPool}
-use Rattle.lane_core.specs.declared.access.Access.{Access}
-use Rattle.lane_core.specs.declared.access.Access.TheVariants.{Refused, Set, Get}
-use Rattle.lane_core.specs.declared.context.Context.{Context}
-use Rattle.lane_core.specs.declared.context.Stage.{Stage}
-use Rattle.lane_core.specs.declared.context.Stage.TheVariants.{Ready}
+use Rattle.lane_context.specs.declared.access.Access.{Access}
+use Rattle.lane_context.specs.declared.access.Access.TheVariants.{Refused, Set, Get}
+use Rattle.lane_context.specs.declared.context.Context.{Context}
+use Rattle.lane_context.specs.declared.context.Stage.{Stage}
+use Rattle.lane_context.specs.declared.context.Stage.TheVariants.{Ready}
 use Rattle.lane_core.specs.declared.lane.Lane.{Lane}
-use Rattle.lane_core.specs.Accesses.{BindsBelow}
+use Rattle.lane_plans.specs.Reaching.{BindsBelow}
 use Rattle.lane_stages.specs.Budgets.{Left}
-use Rattle.lane_core.specs.Contexts.{AccessFits, IsContext, hand_of, left_for}
-use Rattle.lane_core.specs.ContextSteps.{MayTurn}
+use Rattle.lane_context.specs.Contexts.{AccessFits, IsContext, hand_of, left_for}
+use Rattle.lane_context.specs.ContextSteps.{MayTurn}
 use Rattle.lane_core.specs.Lanes.{IsRunningLane, commands_left}
-use Rattle.lane_core.specs.Works.{IsWithin}
+use Rattle.lane_context.specs.Works.{IsWithin}
 use Rattle.lane_core.proofs.LaneLogs.{cut_more}
 use Rattle.lane_core.proofs.LaneRooms.{room_most}
 use Rattle.lane_core.proofs.LaneTurns.{begin_asked, begin_room}

@@ -7,24 +7,25 @@ use Rattle.pool_law.specs.LaneStates.{log_at, new_lane}
 use Rattle.pool_law.specs.Patterns.{closing}
 use Rattle.pool_law.specs.Readers.{ToldNotes}
 use Rattle.shared_pool.specs.declared.pool.SharedPool.{SharedPool}
-use Rattle.lane_core.specs.declared.context.Context.{Context}
-use Rattle.lane_core.specs.declared.context.Stage.TheVariants.{Ready, Closing}
-use Rattle.lane_core.specs.declared.context.Turn.{Turn}
-use Rattle.lane_core.specs.declared.context.Turn.TheVariants.{Went, Pending, Waiting}
+use Rattle.lane_context.specs.declared.context.Context.{Context}
+use Rattle.lane_context.specs.declared.context.Stage.TheVariants.{Ready, Closing}
+use Rattle.lane_context.specs.declared.context.Turn.{Turn}
+use Rattle.lane_context.specs.declared.context.Turn.TheVariants.{Went, Pending, Waiting}
 use Rattle.lane_stages.specs.declared.draining.DrainKind.TheVariants.{Close}
 use Rattle.lane_stages.specs.declared.draining.Draining.{Draining}
 use Rattle.lane_core.specs.declared.lane.Lane.{Lane}
 use Rattle.lane_stages.specs.declared.stepped.Stepped.TheVariants.{Went as StepWent, Pending as StepPending}
 use Rattle.lane_stages.specs.Drainings as draining
-use Rattle.lane_core.specs.Contexts.{IsContext, hand_of, next_of, HasTurnedClosing}
-use Rattle.lane_core.proofs.StageCases.{by_kind, closes_held, closes_none}
+use Rattle.lane_context.specs.Contexts.{IsContext, hand_of, next_of, HasTurnedClosing}
+use Rattle.lane_context.proofs.StageCases.{by_kind}
+use Rattle.lane_core.proofs.StageKinds.{closes_held, closes_none}
 use Rattle.lane_stages.specs.NextNotes.{BeginsAt}
 use Rattle.seat_work.specs.Readings.{ReadsOn, behind}
 use Rattle.lane_stages.specs.Readings.{none_asked}
 use Rattle.lane_core.specs.Lanes.{SameLane, commands_left, entries_since, number_of}
 use Rattle.lane_core.specs.Steps.{HasStepped, IsReadOn, IsStateBehind, NextStandsAt, stepped_of}
 use Rattle.lane_core.proofs.StageWays.{drain_from}
-use Rattle.lane_core.proofs.Ways.{way_read}
+use Rattle.lane_context.proofs.Ways.{way_read}
 use Rattle.lane_core.proofs.LaneGrown.{lane_at, same_lane, same_log, noted_more}
 
 module _ (pool : SharedPool) (l : Lane) (was : IsContext pool (hand_of l.stage) l.context) (d : Context) (n : ℕ)

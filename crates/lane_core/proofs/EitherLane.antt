@@ -5,7 +5,7 @@ use Rattle.pool_law.specs.declared.run.Shape.{Shape}
 use Rattle.pool_law.specs.Legal.{AreCommands}
 use Rattle.shared_pool.specs.declared.pool.SharedPool.{SharedPool}
 use Rattle.lane_core.specs.declared.lane.Lane.{Lane}
-use Rattle.lane_core.specs.Contexts.{IsContext, hand_of}
+use Rattle.lane_context.specs.Contexts.{IsContext, hand_of}
 use Rattle.lane_core.specs.Played.{HasSpare}
 use Rattle.lane_core.specs.Lanes.{IsLane, IsRunningLane, IsStoppedLane}
 

@@ -20,7 +20,7 @@ use Rattle.lane_stages.specs.Growings as growing
 use Rattle.seat_work.specs.Readings.{ReadsOn}
 use Rattle.lane_stages.specs.Readings.{none_asked}
 use Rattle.lane_stages.proofs.GrowReads.{read_extended, read_grown}
-use Rattle.lane_core.proofs.Ways.{HasWay, Taken, arena_way, give_back_way, give_way, obtain_way, put_away_way, then_way}
+use Rattle.lane_context.proofs.Ways.{HasWay, Taken, arena_way, give_back_way, give_way, obtain_way, put_away_way, then_way}
 
 -- over these entries it goes on as one that can be read
 on_way : {A : Type 0} (r q : Reader A) (es : ToldNotes) → ReadsOn r es none_asked q → HasWay q → HasWay r

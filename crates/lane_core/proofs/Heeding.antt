@@ -10,17 +10,18 @@ use Rattle.pool_law.specs.LaneLaw.{before_stop, replies_in}
 use Rattle.pool_law.specs.LaneStates.{LaneState}
 use Rattle.shared_pool.specs.declared.pool.SharedPool.{SharedPool}
 use Rattle.shared_pool.specs.SeatLanes.{lane_of}
-use Rattle.lane_core.specs.declared.context.Context.{Context}
-use Rattle.lane_core.specs.declared.context.Stage.{Stage}
-use Rattle.lane_core.specs.declared.context.Stage.TheVariants.{Ready}
-use Rattle.lane_core.specs.declared.context.Turn.{Turn}
-use Rattle.lane_core.specs.declared.context.Turn.TheVariants.{Went, Pending, Waiting}
+use Rattle.lane_context.specs.declared.context.Context.{Context}
+use Rattle.lane_context.specs.declared.context.Stage.{Stage}
+use Rattle.lane_context.specs.declared.context.Stage.TheVariants.{Ready}
+use Rattle.lane_context.specs.declared.context.Turn.{Turn}
+use Rattle.lane_context.specs.declared.context.Turn.TheVariants.{Went, Pending, Waiting}
 use Rattle.lane_core.specs.declared.lane.Lane.{Lane}
-use Rattle.lane_core.specs.Contexts.{next_of, HasTurned, PassesOver, reads_from}
+use Rattle.lane_context.specs.Contexts.{next_of, HasTurned, PassesOver, reads_from}
 use Rattle.lane_core.specs.Lanes.{Heeds}
 use Rattle.lane_core.proofs.LaneGrown.{lane_at}
 use Rattle.lane_core.proofs.LaneLogs.{unstopped_more}
-use Rattle.lane_core.proofs.StageCases.{by_kind, passes_none, waits_on, went_on}
+use Rattle.lane_context.proofs.StageCases.{by_kind, waits_on, went_on}
+use Rattle.lane_core.proofs.StageKinds.{passes_none}
 use Rattle.lane_core.proofs.StoppedLogs.{stop_more}
 
 -- both tests hold, or one doesn't

@@ -7,10 +7,10 @@ use Rattle.pool_law.specs.Patterns.{closing}
 use Rattle.pool_law.specs.Readers.{ToldNotes}
 use Rattle.shared_pool.specs.SeatViews.{view_of}
 use Rattle.shared_pool.specs.declared.pool.SharedPool.{SharedPool}
-use Rattle.lane_core.specs.declared.context.Context.{Context}
-use Rattle.lane_core.specs.declared.context.Stage.{Stage}
-use Rattle.lane_core.specs.declared.context.Stage.TheVariants.{Ready, Closing}
-use Rattle.lane_core.specs.declared.context.Turn.{Turn}
+use Rattle.lane_context.specs.declared.context.Context.{Context}
+use Rattle.lane_context.specs.declared.context.Stage.{Stage}
+use Rattle.lane_context.specs.declared.context.Stage.TheVariants.{Ready, Closing}
+use Rattle.lane_context.specs.declared.context.Turn.{Turn}
 use Rattle.lane_stages.specs.declared.draining.DrainKind.TheVariants.{Close}
 use Rattle.lane_stages.specs.declared.draining.Draining.{Draining}
 use Rattle.lane_stages.specs.declared.draining.Draining.TheVariants.{Ask}
@@ -19,7 +19,7 @@ use Rattle.lane_stages.specs.declared.stepped.Stepped.{Stepped}
 use Rattle.lane_stages.specs.Drainings as draining
 use Rattle.seat_work.specs.Readings.{ReadsOn, behind}
 use Rattle.lane_stages.specs.Readings.{none_asked}
-use Rattle.lane_core.specs.Contexts.{IsContext, hand_of, Fits, HasRoomFor, next_of, HasTurnedClosing}
+use Rattle.lane_context.specs.Contexts.{IsContext, hand_of, Fits, HasRoomFor, next_of, HasTurnedClosing}
 use Rattle.lane_core.specs.Lanes.{Heeds, IsRunningLane, reads_closing, IsClosing, IsBegun, SameLane, commands_left, entries_since, number_of}
 use Rattle.lane_core.specs.Steps.{HasStepped, stepped_of}
 use Rattle.lane_core.proofs.LaneGrown.{lane_at, room_to_close, room_to_begin}

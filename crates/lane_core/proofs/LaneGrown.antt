@@ -12,16 +12,16 @@ use Rattle.shared_pool.specs.SeatViews.{view_of}
 use Rattle.shared_pool.specs.declared.pool.SharedPool.{SharedPool}
 use Rattle.shared_pool.specs.Closing.{note_of, entry_of}
 use Rattle.shared_pool.specs.SeatLanes.{lane_of}
-use Rattle.lane_core.specs.declared.context.Context.{Context}
-use Rattle.lane_core.specs.declared.context.Stage.{Stage}
-use Rattle.lane_core.specs.declared.context.Stage.TheVariants.{Ready, Closing}
+use Rattle.lane_context.specs.declared.context.Context.{Context}
+use Rattle.lane_context.specs.declared.context.Stage.{Stage}
+use Rattle.lane_context.specs.declared.context.Stage.TheVariants.{Ready, Closing}
 use Rattle.lane_stages.specs.declared.draining.Draining.{Draining}
 use Rattle.lane_stages.specs.declared.draining.Draining.TheVariants.{Ask}
 use Rattle.lane_core.specs.declared.lane.Lane.{Lane}
 use Rattle.lane_stages.specs.Budgets.{Left, Spends, notes_alone, with_sheds}
 use Rattle.lane_stages.specs.Drainings as draining
 use Rattle.seat_work.specs.Hands.{Hand}
-use Rattle.lane_core.specs.Contexts.{IsContext, notes_of, entries_of, hand_of, FitsContext, HasRoomFor, left_at, left_now, SpendsAt, ContextGrew}
+use Rattle.lane_context.specs.Contexts.{IsContext, notes_of, entries_of, hand_of, FitsContext, HasRoomFor, left_at, left_now, SpendsAt, ContextGrew}
 use Rattle.lane_core.specs.Lanes.{IsClosing, SameLane, SameLog, LogGrew, commands_left, answered_entries, entries_since, number_of, both, left_for_each, with_takes, left_for_rest, left_to_ask, left_of}
 use Rattle.lane_core.proofs.LaneRooms.{room_most, room_front, to_ask_open, rest_ready, lane_same, has_room, room_behind}
 

@@ -20,20 +20,20 @@ use Rattle.shared_pool.specs.SeatViews.{view_of}
 use Rattle.shared_pool.specs.declared.pool.SharedPool.{SharedPool}
 use Rattle.shared_pool.specs.Closing.{entry_of}
 use Rattle.shared_pool.specs.SeatLanes.{lane_of}
-use Rattle.lane_core.specs.declared.context.Context.{Context}
-use Rattle.lane_core.specs.declared.context.Stage.{Stage}
-use Rattle.lane_core.specs.declared.context.Stage.TheVariants.{Ready, Closing}
+use Rattle.lane_context.specs.declared.context.Context.{Context}
+use Rattle.lane_context.specs.declared.context.Stage.{Stage}
+use Rattle.lane_context.specs.declared.context.Stage.TheVariants.{Ready, Closing}
 use Rattle.lane_stages.specs.declared.draining.DrainKind.TheVariants.{Close}
 use Rattle.lane_stages.specs.declared.draining.Draining.{Draining}
 use Rattle.lane_core.specs.declared.lane.Lane.{Lane}
 use Rattle.lane_stages.specs.Budgets.{Spends, notes_alone, with_sheds}
 use Rattle.lane_stages.specs.Drainings as draining
 use Rattle.seat_work.specs.Hands.{Hand}
-use Rattle.lane_core.specs.Named.{NamesAre}
+use Rattle.lane_context.specs.Named.{NamesAre}
 use Rattle.seat_work.specs.Readings.{ReadsOn}
 use Rattle.lane_stages.specs.Readings.{none_asked}
-use Rattle.lane_core.specs.Readings.{renamed}
-use Rattle.lane_core.specs.Contexts.{IsContext, notes_of, entries_of, log_of, hand_of, Fits, FitsContext, IsUnderway, HasRoomFor, left_now, SpendsAt, reads_from, ContextGrew, IsAnswered, Waits, NameFits}
+use Rattle.lane_context.specs.Readings.{renamed}
+use Rattle.lane_context.specs.Contexts.{IsContext, notes_of, entries_of, log_of, hand_of, Fits, FitsContext, IsUnderway, HasRoomFor, left_now, SpendsAt, reads_from, ContextGrew, IsAnswered, Waits, NameFits}
 use Rattle.lane_stages.proofs.ReadLaws.{still_on, on_append}
 use Rattle.lane_core.specs.Lanes.{IsRunningLane, IsClosing, IsAtRest, IsResting, HasAnswered, IsBegun, commands_left, answered_entries, entries_since, number_of, left_of}
 use Rattle.lane_core.proofs.LaneLogs.{cut_more, take_whole, drop_whole, pieces_more, counts_more, step_is, unstopped_more}

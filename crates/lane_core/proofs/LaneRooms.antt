@@ -12,12 +12,12 @@ use Rattle.shared_pool.specs.declared.pool.SharedPool.{SharedPool}
 use Rattle.shared_pool.specs.MailAnswers.{RoomFor}
 use Rattle.pool_table.specs.Letters.{sent_on}
 use Rattle.shared_pool.specs.SeatLanes.{lane_of}
-use Rattle.lane_core.specs.declared.context.Context.{Context}
-use Rattle.lane_core.specs.declared.context.Stage.{Stage}
-use Rattle.lane_core.specs.declared.context.Stage.TheVariants.{Ready, Allotting, Ending, Sweeping, Closing, Crossing, Parting, Consolidating, Copying, Replacing, Growing}
+use Rattle.lane_context.specs.declared.context.Context.{Context}
+use Rattle.lane_context.specs.declared.context.Stage.{Stage}
+use Rattle.lane_context.specs.declared.context.Stage.TheVariants.{Ready, Allotting, Ending, Sweeping, Closing, Crossing, Parting, Consolidating, Copying, Replacing, Growing}
 use Rattle.lane_stages.specs.Budgets.{Left, notes_alone, with_sheds}
 use Rattle.seat_work.specs.Hands.{Hand}
-use Rattle.lane_core.specs.Contexts.{ContextGrew, HasRoomFor, SpendsAt, notes_of, left_at, left_now}
+use Rattle.lane_context.specs.Contexts.{ContextGrew, HasRoomFor, SpendsAt, notes_of, left_at, left_now}
 use Rattle.lane_core.specs.Lanes.{IsClosing, both, left_for_each, with_takes, left_for_rest, left_to_ask}
 
 -- ---- Room for less.

@@ -16,30 +16,31 @@ use Rattle.shared_pool.specs.SeatViews.{view_of}
 use Rattle.shared_pool.specs.declared.pool.SharedPool.{SharedPool}
 use Rattle.shared_pool.specs.Closing.{entry_of}
 use Rattle.shared_pool.specs.SeatLanes.{lane_of}
-use Rattle.lane_core.specs.declared.context.Context.{Context}
-use Rattle.lane_core.specs.declared.context.Stage.{Stage}
-use Rattle.lane_core.specs.declared.context.Stage.TheVariants.{Ready}
-use Rattle.lane_core.specs.declared.context.Turn.{Turn}
-use Rattle.lane_core.specs.declared.context.Turn.TheVariants.{Went, Pending, Waiting}
+use Rattle.lane_context.specs.declared.context.Context.{Context}
+use Rattle.lane_context.specs.declared.context.Stage.{Stage}
+use Rattle.lane_context.specs.declared.context.Stage.TheVariants.{Ready}
+use Rattle.lane_context.specs.declared.context.Turn.{Turn}
+use Rattle.lane_context.specs.declared.context.Turn.TheVariants.{Went, Pending, Waiting}
 use Rattle.lane_core.specs.declared.lane.Lane.{Lane}
 use Rattle.lane_stages.specs.declared.stepped.Stepped.{Stepped}
 use Rattle.lane_stages.specs.declared.stepped.Stepped.TheVariants.{Went as StepWent, Pending as StepPending}
-use Rattle.lane_core.specs.Accesses.{IsState}
+use Rattle.lane_context.specs.Accesses.{IsState}
 use Rattle.lane_stages.specs.Counting.{CountsAre}
 use Rattle.lane_stages.specs.Budgets.{Left}
-use Rattle.lane_core.specs.Named.{NamesAre}
+use Rattle.lane_context.specs.Named.{NamesAre}
 use Rattle.lane_stages.specs.NextNotes.{BeginsAt, CanBeRead}
-use Rattle.lane_core.specs.Readings.{renamed}
-use Rattle.lane_core.specs.Contexts.{notes_of, entries_of, log_of, hand_of, Fits, IsUnderway, HasRoomFor, SpendsAt, left_for, left_at, left_now, reads_from, next_of, HasTurned}
+use Rattle.lane_context.specs.Readings.{renamed}
+use Rattle.lane_context.specs.Contexts.{notes_of, entries_of, log_of, hand_of, Fits, IsUnderway, HasRoomFor, SpendsAt, left_for, left_at, left_now, reads_from, next_of, HasTurned}
 use Rattle.lane_core.specs.Lanes.{Heeds, IsRunningLane, IsClosing, IsAtRest, IsBegun, IsResting, SameLane, commands_left, answered_entries, entries_since, number_of}
 use Rattle.lane_core.specs.Steps.{HasStepped, IsReadOn, IsStateBehind, MayFollow, NextStandsAt, ReceivesNext, stepped_of}
 use Rattle.lane_core.proofs.LaneLogs.{cut_at, take_whole, drop_whole}
 use Rattle.lane_core.proofs.LaneGrown.{lane_at, same_lane, same_log, noted_more, replied_more, front_room}
 use Rattle.lane_core.proofs.StageWays.{its_class, stage_way}
-use Rattle.lane_core.proofs.Ways.{same_way, way_read}
+use Rattle.lane_context.proofs.Ways.{same_way, way_read}
 use Rattle.lane_core.proofs.Heeding.{turned_heeds}
 use Rattle.lane_core.proofs.LaneKept.{answered_lane, still_lane, waiting_lane}
-use Rattle.lane_core.proofs.StageCases.{by_kind, left_on, no_closing, no_rest, same_left, waits_on, went_on}
+use Rattle.lane_context.proofs.StageCases.{by_kind, left_on, waits_on, went_on}
+use Rattle.lane_core.proofs.StageKinds.{no_closing, no_rest, same_left}
 
 -- the state behind a run, and this one where there is none
 abbrev state_in : LaneState → Option (List Reply × LaneState) → LaneState

@@ -28,20 +28,20 @@ use Rattle.pool_table.specs.Letters.{sent_on}
 use Rattle.shared_pool.specs.SeatLanes.{lane_of}
 use Rattle.seat_work.proofs.FirstSeats.{IsHeld-empty}
 use Rattle.lane_stages.specs.declared.counts.Counted.{Counted}
-use Rattle.lane_core.specs.declared.context.Context.{Context}
-use Rattle.lane_core.specs.declared.context.Stage.TheVariants.{Ready}
+use Rattle.lane_context.specs.declared.context.Context.{Context}
+use Rattle.lane_context.specs.declared.context.Stage.TheVariants.{Ready}
 use Rattle.lane_core.specs.declared.lane.Lane.{Lane}
 use Rattle.lane_core.specs.declared.lane.Parts.{Parts}
 use Rattle.lane_stages.specs.Budgets.{Left, all_out}
 use Rattle.seat_work.specs.Hands.{empty_hand}
 use Rattle.lane_stages.specs.Sampled.{AreSampled}
-use Rattle.lane_core.specs.Named.{bound_at, NamesAre, AreViews, ChangesBelow, known_to, AreInside}
+use Rattle.lane_context.specs.Named.{bound_at, NamesAre, AreViews, known_to, AreInside}
+use Rattle.lane_core.specs.Opened.{ChangesBelow, AreFirst, IsFirstSeat, AreParts}
 use Rattle.lane_stages.specs.Counting.{counted, CountsAre}
-use Rattle.lane_core.specs.Contexts.{IsContext, entries_of, FitsContext, HasRoomFor}
+use Rattle.lane_context.specs.Contexts.{IsContext, entries_of, FitsContext, HasRoomFor}
 use Rattle.lane_core.specs.Lanes.{left_for_each, IsRunningLane, HasAnswered, IsBegun, left_for_rest, left_to_ask, commands_left, answered_entries, both}
 use Rattle.seat_work.specs.Readings.{ReadsOn}
 use Rattle.lane_stages.specs.Readings.{none_asked}
-use Rattle.lane_core.specs.Opened.{AreFirst, IsFirstSeat, AreParts}
 use Rattle.lane_core.proofs.LaneRooms.{rest_ready}
 use Rattle.lane_stages.proofs.Outs.{none_out}
 use Rattle.lane_stages.proofs.ReadLaws.{still_on}

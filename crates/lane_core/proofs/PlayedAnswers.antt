@@ -13,7 +13,7 @@ use Rattle.shared_pool.specs.Closing.{entry_of}
 use Rattle.lane_stages.specs.declared.draining.DrainKind.TheVariants.{Close}
 use Rattle.lane_stages.specs.declared.draining.Draining.TheVariants.{Done}
 use Rattle.lane_core.specs.declared.lane.Lane.{Lane}
-use Rattle.lane_core.specs.Contexts.{entries_of, notes_of}
+use Rattle.lane_context.specs.Contexts.{entries_of, notes_of}
 use Rattle.lane_stages.specs.Drainings as draining
 use Rattle.lane_core.specs.Lanes.{HasPassedOver, IsClosing, entries_since, number_of}
 use Rattle.lane_core.specs.Played.{IsFinishedLane}

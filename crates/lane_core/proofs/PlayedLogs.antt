@@ -12,7 +12,7 @@ use Rattle.shared_pool.specs.declared.pool.SharedPool.{SharedPool}
 use Rattle.shared_pool.specs.Closing.{logs_in, entries_in, note_of, entry_of}
 use Rattle.shared_pool.specs.Seated.{parts_in}
 use Rattle.lane_core.specs.declared.lane.Lane.{Lane}
-use Rattle.lane_core.specs.Contexts.{entries_of}
+use Rattle.lane_context.specs.Contexts.{entries_of}
 use Rattle.lane_core.specs.Played.{IsFinishedLane, AreFinished, IsRunOf, log_written}
 use Rattle.lane_core.proofs.EitherLane.{lane_context}
 use Rattle.lane_core.proofs.PlayedLists.{length-map, map-map, map-same, log-at}

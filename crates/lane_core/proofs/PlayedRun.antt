@@ -28,7 +28,7 @@ use Rattle.shared_pool.proofs.LooksHeld.{looks-held}
 use Rattle.shared_pool.proofs.ClosingWhole.{in_map}
 use Rattle.lane_core.specs.declared.lane.Lane.{Lane}
 use Rattle.lane_stages.specs.Sampled.{AreSampled}
-use Rattle.lane_core.specs.Contexts as contexts
+use Rattle.lane_context.specs.Contexts as contexts
 use Rattle.lane_core.specs.Lanes.{number_of}
 use Rattle.lane_core.specs.Played.{AreFinished, IsFinishedLane, IsPlayed, IsRunOf, log_written}
 use Rattle.lane_core.proofs.EitherLane.{lane_context, lane_commands}

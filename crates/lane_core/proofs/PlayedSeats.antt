@@ -6,11 +6,11 @@ use Rattle.shared_pool.specs.SeatViews.{view_of}
 use Rattle.shared_pool.specs.declared.pool.SharedPool.{SharedPool}
 use Rattle.shared_pool.specs.Seated.{HasNothing, IsDone, AreDone}
 use Rattle.shared_pool.proofs.Openings.{map_at}
-use Rattle.lane_core.specs.declared.context.Stage.TheVariants.{Closing}
+use Rattle.lane_context.specs.declared.context.Stage.TheVariants.{Closing}
 use Rattle.lane_stages.specs.declared.draining.Draining.TheVariants.{Done}
 use Rattle.lane_core.specs.declared.lane.Lane.{Lane}
 use Rattle.seat_work.specs.Hands.{IsHeld}
-use Rattle.lane_core.specs.Contexts.{hand_of}
+use Rattle.lane_context.specs.Contexts.{hand_of}
 use Rattle.lane_core.specs.Played.{IsFinishedLane, AreFinished}
 use Rattle.lane_core.proofs.EitherLane.{lane_context}
 use Rattle.lane_core.proofs.PlayedLists.{stands-at, HoldsAt-from, length-map}

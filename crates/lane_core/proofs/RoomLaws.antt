@@ -13,7 +13,8 @@ use Rattle.pool_law.specs.declared.command.Command.{Command}
 use Rattle.pool_law.specs.Bounds.{composes, may_ask, most_notes, most_drained, note_bound}
 use Rattle.lane_stages.specs.Budgets.{most_of_lane}
 use Rattle.lane_core.specs.Lanes.{left_for_each, left_for_all}
-use Rattle.lane_core.specs.Named.{changed_name, ChangesBelow}
+use Rattle.lane_context.specs.Named.{changed_name}
+use Rattle.lane_core.specs.Opened.{ChangesBelow}
 
 -- a command makes at most 197 notes, and asks at most one cache
 pub few_notes : (composes : Bool) (c : Command) → most_notes composes c ≤ 197

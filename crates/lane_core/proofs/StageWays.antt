@@ -8,17 +8,16 @@ use Rattle.pool_law.specs.declared.run.Reply.{Reply}
 use Rattle.pool_law.specs.declared.run.Shape.{Shape}
 use Rattle.pool_law.specs.Dids as says
 use Rattle.pool_law.specs.Limits.{geometry_of}
-use Rattle.pool_law.specs.LaneLaw.{sweep_period}
 use Rattle.pool_law.specs.LaneStates.{LaneState}
 use Rattle.pool_law.specs.Lanes.{Answer, allotted, answer, composed, copied_to, get_parts, regrown, release_parts, set_parts}
-use Rattle.pool_law.specs.Patterns.{New, ask_arena, drain, give_back, obtain, put_away, sheds, sweep_if_due}
+use Rattle.pool_law.specs.Patterns.{New, ask_arena, drain, give_back, obtain, put_away, sheds}
 use Rattle.pool_law.specs.Readers.{Reader, ◌>>=◌, ◌>>◌, access, ending as ends, give, step}
 use Rattle.shared_pool.specs.declared.pool.SharedPool.{SharedPool}
 use Rattle.lane_stages.specs.declared.allotment.Allotting.{Allotting}
 use Rattle.lane_stages.specs.declared.allotment.Allotting.TheVariants as allots
-use Rattle.lane_core.specs.declared.context.Context.{Context}
-use Rattle.lane_core.specs.declared.context.Stage.{Stage}
-use Rattle.lane_core.specs.declared.context.Stage.TheVariants.{Ready, Allotting as AllottingAt, Ending as EndingAt, Sweeping, Closing, Crossing as CrossingAt, Parting, Consolidating, Copying as CopyingAt, Replacing, Growing as GrowingAt}
+use Rattle.lane_context.specs.declared.context.Context.{Context}
+use Rattle.lane_context.specs.declared.context.Stage.{Stage}
+use Rattle.lane_context.specs.declared.context.Stage.TheVariants.{Ready, Allotting as AllottingAt, Ending as EndingAt, Sweeping, Closing, Crossing as CrossingAt, Parting, Consolidating, Copying as CopyingAt, Replacing, Growing as GrowingAt}
 use Rattle.lane_stages.specs.declared.copying.Copying.{Copying}
 use Rattle.lane_stages.specs.declared.copying.Copying.TheVariants as copies
 use Rattle.lane_stages.specs.declared.crossing.Crossing.{Crossing}
@@ -31,20 +30,17 @@ use Rattle.lane_stages.specs.declared.releasing.Releasing.{Releasing}
 use Rattle.lane_stages.specs.declared.retirement.Ending.{Ending}
 use Rattle.lane_stages.specs.declared.retirement.Ending.TheVariants as endings
 use Rattle.lane_stages.specs.Allotments as allotment
-use Rattle.lane_core.specs.Composing.{crossed, ended}
-use Rattle.lane_core.specs.Contexts.{Fits, IsUnderway, reads_from}
+use Rattle.lane_context.specs.Composing.{crossed, ended}
+use Rattle.lane_context.specs.Contexts.{Fits, IsUnderway, reads_from}
 use Rattle.lane_stages.specs.Copyings as copying
 use Rattle.lane_stages.specs.Crossings as crossing
 use Rattle.lane_stages.specs.Drainings as draining
 use Rattle.lane_stages.specs.Endings as ending
-use Rattle.lane_core.specs.Readings.{swept}
+use Rattle.lane_context.specs.Readings.{swept}
 use Rattle.lane_stages.specs.Growings as growing
 use Rattle.lane_stages.specs.Releasings as releasing
 use Rattle.lane_core.proofs.GrowWays.{grow_from}
-use Rattle.lane_core.proofs.Ways.{HasWay, allot_way, arena_way, bear_way, copied_way, copy_way, drain_way, ending_way, get_parts_way, give_back_way, give_way, home_way, obtain_way, parts_way, put_away_way, set_parts_way, set_way, sheds_way, sweep_way, then_way, vacated_way}
-
-pub swept_way : (lane : ℕ) (a : Answer) → HasWay (swept lane a)
-swept_way lane a = then_way (sweep_if_due sweep_period lane) _ (sweep_way sweep_period lane) (λ u. give_way a)
+use Rattle.lane_context.proofs.Ways.{swept_way, HasWay, allot_way, arena_way, bear_way, copied_way, copy_way, drain_way, ending_way, get_parts_way, give_back_way, give_way, home_way, obtain_way, parts_way, put_away_way, set_parts_way, set_way, sheds_way, then_way, vacated_way}
 
 module _ (shape : Shape) (lane size class : ℕ) where
   allot_from : (stage : Allotting) → HasWay (allotment.rest_of shape lane size class stage)

@@ -17,15 +17,15 @@ use Rattle.pool_table.specs.declared.views.Entry.{Entry}
 use Rattle.shared_pool.specs.SeatViews.{view_of}
 use Rattle.shared_pool.specs.declared.pool.SharedPool.{SharedPool}
 use Rattle.shared_pool.specs.Closing.{entry_of}
-use Rattle.lane_core.specs.declared.context.Context.{Context}
-use Rattle.lane_core.specs.declared.context.Stage.{Stage}
-use Rattle.lane_core.specs.declared.context.Stage.TheVariants.{Ready}
+use Rattle.lane_context.specs.declared.context.Context.{Context}
+use Rattle.lane_context.specs.declared.context.Stage.{Stage}
+use Rattle.lane_context.specs.declared.context.Stage.TheVariants.{Ready}
 use Rattle.lane_core.specs.declared.lane.Lane.{Lane}
 use Rattle.lane_stages.specs.Budgets.{notes_alone, with_sheds}
 use Rattle.seat_work.specs.Hands.{Hand, empty_hand}
 use Rattle.seat_work.specs.Readings.{ReadsOn}
 use Rattle.lane_stages.specs.Readings.{none_asked}
-use Rattle.lane_core.specs.Contexts.{IsContext, notes_of, entries_of, hand_of, Fits, FitsContext, IsUnderway, HasRoomFor, ContextGrew, left_now, SpendsAt, IsPassedOver}
+use Rattle.lane_context.specs.Contexts.{IsContext, notes_of, entries_of, hand_of, Fits, FitsContext, IsUnderway, HasRoomFor, ContextGrew, left_now, SpendsAt, IsPassedOver}
 use Rattle.lane_core.specs.Lanes.{IsRunningLane, IsStoppedLane, HasPassedOver, reads_closing, IsClosing, IsAtRest, commands_left, answered_entries, entries_since, number_of, left_of}
 use Rattle.lane_stages.proofs.ReadLaws.{still_on}
 use Rattle.lane_core.proofs.LaneLogs.{cut_more, take_whole, drop_whole, pieces-length, pieces_more, counts_more}

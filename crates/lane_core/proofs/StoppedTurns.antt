@@ -8,11 +8,11 @@ use Rattle.pool_law.specs.Readers.{ToldNotes}
 use Rattle.shared_pool.specs.SeatViews.{view_of}
 use Rattle.shared_pool.specs.declared.pool.SharedPool.{SharedPool}
 use Rattle.shared_pool.specs.Closing.{entry_of}
-use Rattle.lane_core.specs.declared.context.Context.{Context}
-use Rattle.lane_core.specs.declared.context.Stage.{Stage}
-use Rattle.lane_core.specs.declared.context.Stage.TheVariants.{Ready, Closing}
-use Rattle.lane_core.specs.declared.context.Turn.{Turn}
-use Rattle.lane_core.specs.declared.context.Turn.TheVariants.{Went, Pending, Waiting}
+use Rattle.lane_context.specs.declared.context.Context.{Context}
+use Rattle.lane_context.specs.declared.context.Stage.{Stage}
+use Rattle.lane_context.specs.declared.context.Stage.TheVariants.{Ready, Closing}
+use Rattle.lane_context.specs.declared.context.Turn.{Turn}
+use Rattle.lane_context.specs.declared.context.Turn.TheVariants.{Went, Pending, Waiting}
 use Rattle.lane_stages.specs.declared.draining.DrainKind.TheVariants.{Close}
 use Rattle.lane_stages.specs.declared.draining.Draining.{Draining}
 use Rattle.lane_stages.specs.declared.draining.Draining.TheVariants.{Ask}
@@ -23,7 +23,7 @@ use Rattle.lane_stages.specs.Drainings as draining
 use Rattle.seat_work.specs.Hands.{Hand, empty_hand}
 use Rattle.seat_work.specs.Readings.{ReadsOn}
 use Rattle.lane_stages.specs.Readings.{none_asked}
-use Rattle.lane_core.specs.Contexts.{IsContext, hand_of, Fits, HasRoomFor, left_for, left_at, next_of, PassesOver, HasTurnedClosing}
+use Rattle.lane_context.specs.Contexts.{IsContext, hand_of, Fits, HasRoomFor, left_for, left_at, next_of, PassesOver, HasTurnedClosing}
 use Rattle.lane_core.specs.Lanes.{Heeds, IsStoppedLane, reads_closing, SameLane, commands_left, entries_since, number_of}
 use Rattle.lane_core.specs.Steps.{HasStepped, stepped_of}
 use Rattle.lane_stages.proofs.ReadLaws.{on_append}
@@ -31,7 +31,8 @@ use Rattle.lane_core.proofs.LaneGrown.{lane_at, same_lane, replied_more, still_s
 use Rattle.lane_core.proofs.CloseTurns.{closing_same, closing_so, closing_next}
 use Rattle.lane_core.proofs.Heeding.{heeds_still}
 use Rattle.lane_core.proofs.StoppedKept.{stopped_with, still_few, still_passed, passed_on_lane}
-use Rattle.lane_core.proofs.StageCases.{by_kind, passes_none}
+use Rattle.lane_context.proofs.StageCases.{by_kind}
+use Rattle.lane_core.proofs.StageKinds.{passes_none}
 
 -- ---- The closing.
 

@@ -19,20 +19,20 @@ use Rattle.pool_table.specs.declared.views.SeatView.{SeatView}
 use Rattle.shared_pool.specs.SeatViews.{view_of}
 use Rattle.shared_pool.specs.declared.pool.SharedPool.{SharedPool}
 use Rattle.shared_pool.specs.SeatLanes.{lane_of}
-use Rattle.lane_core.specs.declared.context.Context.{Context}
-use Rattle.lane_core.specs.declared.context.Stage.{Stage}
-use Rattle.lane_core.specs.declared.context.Stage.TheVariants.{Ready, Closing}
+use Rattle.lane_context.specs.declared.context.Context.{Context}
+use Rattle.lane_context.specs.declared.context.Stage.{Stage}
+use Rattle.lane_context.specs.declared.context.Stage.TheVariants.{Ready, Closing}
 use Rattle.lane_stages.specs.declared.draining.DrainKind.TheVariants.{Close}
 use Rattle.lane_stages.specs.declared.draining.Draining.TheVariants.{Done as AllClosed}
 use Rattle.lane_core.specs.declared.lane.Lane.{Lane}
 use Rattle.lane_stages.specs.Budgets.{Left, notes_alone, with_sheds}
 use Rattle.seat_work.specs.Growth.{IsOneStep}
-use Rattle.lane_core.specs.Named.{NamesAre}
+use Rattle.lane_context.specs.Named.{NamesAre}
 use Rattle.seat_work.specs.Readings.{ReadsOn}
 use Rattle.lane_stages.specs.Readings.{none_asked}
-use Rattle.lane_core.specs.Readings.{renamed}
+use Rattle.lane_context.specs.Readings.{renamed}
 use Rattle.lane_stages.specs.Drainings as draining
-use Rattle.lane_core.specs.Contexts.{IsContext, notes_of, entries_of, log_of, hand_of, Fits, FitsContext, IsUnderway, NameFits, HasRoomFor, left_for, left_now, reads_from}
+use Rattle.lane_context.specs.Contexts.{IsContext, notes_of, entries_of, log_of, hand_of, Fits, FitsContext, IsUnderway, NameFits, HasRoomFor, left_for, left_now, reads_from}
 
 -- the commands that are not answered yet, that one first which is under way
 abbrev pub commands_left : Lane → List Command

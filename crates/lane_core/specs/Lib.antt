@@ -1,12 +1,3 @@
-pub mod Named
-pub mod Readings
-pub mod Accesses
-pub mod Composing
-pub mod Contexts
-pub mod ContextSteps
-pub mod Works
-pub mod Plans
-pub mod Compositions
 pub mod Prepared
 pub mod Lanes
 pub mod Opened

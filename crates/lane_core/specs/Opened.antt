@@ -1,5 +1,5 @@
 -- The seat and the commands of a new lane.
-use Rattle.std.specs.Prelude.{◌≡◌, ℕ, ◌*◌, ◌<◌, ◌≤◌, List, [], length, replicate, All, None, vec_capacity}
+use Rattle.std.specs.Prelude.{◌≡◌, ℕ, ◌*◌, ◌<◌, ◌≤◌, List, [], length, replicate, All, None, IfSome, vec_capacity}
 use Rattle.std.specs.List.{list_any}
 use Rattle.pool_law.specs.declared.command.Command.{Command}
 use Rattle.pool_law.specs.declared.id.RootId.{RootId}
@@ -16,7 +16,7 @@ use Rattle.shared_pool.specs.SeatLanes.{lane_of}
 use Rattle.shared_pool.specs.Seats.{IsPoolSeat}
 use Rattle.shared_pool.specs.Wearing.{IsShort}
 use Rattle.lane_core.specs.declared.lane.Parts.{Parts}
-use Rattle.lane_core.specs.Named.{ChangesBelow}
+use Rattle.lane_context.specs.Named.{changed_name}
 use Rattle.lane_stages.specs.Counting.{counted}
 use Rattle.lane_core.specs.Lanes.{left_for_all}
 
@@ -38,6 +38,10 @@ pub record IsFirstSeat (pool : SharedPool) (shape : Shape) (commands : List Comm
 -- the commands of a new lane
 pub record AreFirst (shape : Shape) (commands : List Command) : Type 0 where
   pub commands_are : AreCommands shape commands
+
+-- the name whose binding a command may change is below this, where there is one
+abbrev pub ChangesBelow : ℕ → Command → Type 0
+ChangesBelow count command = IfSome (changed_name command) (λ name. name < count)
 
 -- what a new lane of this number is made of, beside its commands and its seat: none of its names is
 -- bound, it counts no root, and there is room for its log

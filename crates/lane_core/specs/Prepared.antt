@@ -2,11 +2,12 @@
 use Rattle.std.specs.Prelude.{length}
 use Rattle.pool_law.specs.declared.command.Command.{Command}
 use Rattle.pool_law.specs.LaneStates.{LaneState}
-use Rattle.lane_core.specs.declared.context.Context.{Context}
+use Rattle.lane_context.specs.declared.context.Context.{Context}
 use Rattle.lane_core.specs.declared.prepared.Prepared.{Prepared}
 use Rattle.lane_core.specs.declared.prepared.Prepared.TheVariants.{Work, Access, Alone}
-use Rattle.lane_core.specs.Accesses.{BindsBelow, IsAccess, IsPrepared, IsState}
-use Rattle.lane_core.specs.Works.{IsPlanned, IsReady, IsUnplanned}
+use Rattle.lane_plans.specs.Reaching.{BindsBelow}
+use Rattle.lane_context.specs.Accesses.{IsAccess, IsPrepared, IsState}
+use Rattle.lane_context.specs.Works.{IsPlanned, IsReady, IsUnplanned}
 
 -- it is what the command needs at the context
 abbrev pub IsPreparedFor : Context → Command → Prepared → Type 0

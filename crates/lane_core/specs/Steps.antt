@@ -12,13 +12,13 @@ use Rattle.shared_pool.specs.declared.pool.SharedPool.{SharedPool}
 use Rattle.shared_pool.specs.MailAnswers.{IsDrained}
 use Rattle.shared_pool.specs.Seats.{FoundBusy}
 use Rattle.lane_core.specs.declared.lane.Lane.{Lane}
-use Rattle.lane_core.specs.declared.context.Stage.{Stage}
-use Rattle.lane_core.specs.declared.context.Turn.{Turn}
-use Rattle.lane_core.specs.declared.context.Turn.TheVariants.{Went as TurnWent, Pending as TurnPending, Waiting as TurnWaiting}
+use Rattle.lane_context.specs.declared.context.Stage.{Stage}
+use Rattle.lane_context.specs.declared.context.Turn.{Turn}
+use Rattle.lane_context.specs.declared.context.Turn.TheVariants.{Went as TurnWent, Pending as TurnPending, Waiting as TurnWaiting}
 use Rattle.lane_stages.specs.declared.stepped.Stepped.{Stepped}
 use Rattle.lane_stages.specs.declared.stepped.Stepped.TheVariants.{Went, Pending, Waiting, Finished}
 use Rattle.lane_stages.specs.NextNotes.{StandsFirst}
-use Rattle.lane_core.specs.Contexts.{ReceivesFrom}
+use Rattle.lane_context.specs.Contexts.{ReceivesFrom}
 use Rattle.lane_core.specs.Lanes.{IsFinished, SameLog, LogGrew, answered_entries, commands_left, commands_of, entries_since, number_of, replies_of}
 
 -- the next command receives from that lane

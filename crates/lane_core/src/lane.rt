@@ -10,11 +10,10 @@ ghost use Rattle.lane_core.specs.Opened.{IsFirstSeat, AreFirst, AreParts};
 
 mod stepping;
 
-use crate::context::{Context, Stage};
-use crate::names::Names;
 use crate::room::{makes_composites, name_count, note_bound};
 use crate::spare::Spare;
 use crate::spending::spend;
+use lane_context::{Context, Names, Stage};
 use lane_stages::{Draining, OwnCounts, lane_of};
 use leak_records::Sampler;
 use pool_law::{Answered, CommandList, LaneLog, Note, NoteList, ReplyList, Shape};

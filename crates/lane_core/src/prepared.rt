@@ -3,16 +3,14 @@
 ghost use Rattle.std.specs.Prelude.{◌≡◌, ◌+◌, ◌<◌, length, IfOk};
 ghost use Rattle.pool_law.specs.Limits.{geometry_of};
 ghost use Rattle.pool_law.specs.LaneStates.{LaneState};
-ghost use Rattle.lane_core.specs.Accesses.{IsState};
-ghost use Rattle.lane_core.specs.Contexts.{FitsContext, left_for};
-ghost use Rattle.lane_core.specs.ContextSteps.{MayTurn, Turns};
-ghost use Rattle.lane_core.specs.Named.{AreComposites, AreInside, known_to};
+ghost use Rattle.lane_context.specs.Accesses.{IsState};
+ghost use Rattle.lane_context.specs.Contexts.{FitsContext, left_for};
+ghost use Rattle.lane_context.specs.ContextSteps.{MayTurn, Turns};
+ghost use Rattle.lane_context.specs.Named.{AreComposites, AreInside, known_to};
 ghost use Rattle.lane_core.specs.Prepared.{IsPreparedFor};
 
-use crate::access::{Access, prepare};
-use crate::context::{Context, Turn};
-use crate::planning::plan;
-use crate::work::Work;
+use lane_context::{Access, Context, Turn, Work};
+use lane_plans::{plan, prepare};
 use pool_law::Command;
 use shared_pool::SharedPool;
 use std::alloc::{AllocError, Global};

@@ -4,9 +4,9 @@ ghost use Rattle.std.specs.Prelude.{◌≡◌, ◌≤◌, if◌then◌else◌, A
 ghost use Rattle.std.specs.List.{list_any};
 ghost use Rattle.pool_law.specs.Bounds.{composes, may_ask, most_notes, note_bound};
 ghost use Rattle.lane_stages.specs.Budgets.{most_of_lane};
-ghost use Rattle.lane_core.specs.Named.{ChangesBelow};
+ghost use Rattle.lane_core.specs.Opened.{ChangesBelow};
 
-use crate::context::SWEEP_PERIOD;
+use lane_context::SWEEP_PERIOD;
 use pool_law::Command;
 use size_classes::CACHED_CLASSES;
 

@@ -1,13 +1,13 @@
 //! What a lane leaves behind where it is abandoned, all of it let go by its parts.
 
 ghost use Rattle.lane_stages.specs.declared.draining.Draining.{Draining};
-ghost use Rattle.lane_core.specs.declared.context.Stage.{Stage};
+ghost use Rattle.lane_context.specs.declared.context.Stage.{Stage};
 
-use crate::context::Stage;
+use lane_context::Stage;
 use lane_stages::{Allotting, Draining, Ending, Growing, Releasing};
 use pool_law::Region;
 
-// Spends what a stage has in hand. A region's memory stays taken until the program ends.
+/// Spends what a stage has in hand. A region's memory stays taken until the program ends.
 pub(crate) fn spend(stage: Stage) {
     match stage {
         Stage::Ready => {}

@@ -10,7 +10,7 @@ use Rattle.pool_law.specs.declared.command.Command.{Command}
 use Rattle.pool_law.specs.Bounds.{composes}
 use Rattle.pool_law.specs.Logs.{of_lane}
 use Rattle.pool_law.proofs.LogLemmas.{lane-at}
-use Rattle.lane_core.specs.Contexts.{left_for}
+use Rattle.lane_context.specs.Contexts.{left_for}
 use Rattle.lane_core.specs.Lanes.{left_for_each, left_for_all}
 use Rattle.trace_top.specs.Needs.{is_move, is_send}
 

@@ -4,14 +4,14 @@ ghost use Rattle.std.specs.Prelude.{◌≡◌, ◌+◌, ◌<◌, ◌&&◌, max, 
 ghost use Rattle.lane_stages.specs.declared.stepped.Stepped.TheVariants.{Finished};
 ghost use Rattle.lane_core.specs.Lanes.{Heeds, IsLane, IsRunningLane, IsStoppedLane, IsFinished, SameLane, number_of};
 ghost use Rattle.lane_core.specs.Steps.{HasStepped, at_stage, stepped_of};
-ghost use Rattle.lane_core.specs.Contexts.{next_of};
+ghost use Rattle.lane_context.specs.Contexts.{next_of};
 ghost use Rattle.lane_stages.specs.declared.draining.Draining.{Draining};
-ghost use Rattle.lane_core.specs.declared.context.Stage.{Stage};
+ghost use Rattle.lane_context.specs.declared.context.Stage.{Stage};
 
 use super::Lane;
-use crate::context::{Stage, Turn};
 use crate::gate::{Gate, Pass};
 use crate::prepared::{begin_with, provide};
+use lane_context::{Stage, Turn};
 use lane_stages::{Draining, Stepped, lane_of};
 use shared_pool::SharedPool;
 use std::alloc::{AllocError, Global};

@@ -5,7 +5,7 @@ use Rattle.std.proofs.lemmas.List.{length-replicate}
 use Rattle.pool_law.specs.declared.command.Command.{Command}
 use Rattle.pool_law.specs.Bounds.{composes, note_bound}
 use Rattle.leak_records.specs.Records.{new_sampler}
-use Rattle.lane_core.specs.Named.{ChangesBelow}
+use Rattle.lane_core.specs.Opened.{ChangesBelow}
 use Rattle.lane_core.proofs.lane.equipped.Goals as goal
 
 pub returns : goal.returns

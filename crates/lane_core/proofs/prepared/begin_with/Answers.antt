@@ -1,15 +1,15 @@
 use Rattle.std.proofs.Common.{◌≡◌, ◌≤◌, Bool, true, false, arith, subst}
 use Rattle.pool_law.specs.declared.command.Command.{Command}
 use Rattle.shared_pool.specs.declared.pool.SharedPool.{SharedPool}
-use Rattle.lane_core.specs.declared.context.Context.{Context}
+use Rattle.lane_context.specs.declared.context.Context.{Context}
 use Rattle.lane_core.specs.declared.prepared.Prepared.{Prepared}
 use Rattle.lane_core.specs.declared.prepared.Prepared.TheVariants.{Work, Access, Alone}
-use Rattle.lane_core.specs.Accesses.{IsAccess}
+use Rattle.lane_context.specs.Accesses.{IsAccess}
 use Rattle.lane_stages.specs.Budgets.{notes_alone}
-use Rattle.lane_core.specs.Contexts.{left_for, HasRoomFor}
-use Rattle.lane_core.specs.Named.{known_to}
+use Rattle.lane_context.specs.Contexts.{left_for, HasRoomFor}
+use Rattle.lane_context.specs.Named.{known_to}
 use Rattle.lane_core.specs.Prepared.{IsPreparedFor}
-use Rattle.lane_core.specs.Works.{left_of}
+use Rattle.lane_context.specs.Works.{left_of}
 use Rattle.lane_core.proofs.Carrying.{access_fits, may_within}
 use Rattle.lane_core.proofs.LaneRooms.{room_most}
 use Rattle.lane_core.proofs.prepared.begin_with.Goals as goal

@@ -1,10 +1,11 @@
 use Rattle.std.proofs.Common.{length, subst, Option}
 use Rattle.std.specs.Prelude.{IfNone, IfSome}
 use Rattle.pool_law.specs.LaneStates.{LaneState}
-use Rattle.lane_core.specs.declared.access.Access.{Access}
-use Rattle.lane_core.specs.declared.work.Work.{Work}
-use Rattle.lane_core.specs.Accesses.{BindsBelow, IsAccess, IsPrepared, IsState}
-use Rattle.lane_core.specs.Works.{IsPlanned, IsReady, IsUnplanned}
+use Rattle.lane_context.specs.declared.access.Access.{Access}
+use Rattle.lane_context.specs.declared.work.Work.{Work}
+use Rattle.lane_plans.specs.Reaching.{BindsBelow}
+use Rattle.lane_context.specs.Accesses.{IsAccess, IsPrepared, IsState}
+use Rattle.lane_context.specs.Works.{IsPlanned, IsReady, IsUnplanned}
 use Rattle.lane_core.proofs.prepared.provide.Goals as goal
 
 pub returns-in-Some : goal.returns-in-Some

@@ -1,7 +1,7 @@
 use Rattle.std.proofs.Common.{◌≤◌, sym, subst, arith}
 use Rattle.std.specs.Prelude.{All}
 use Rattle.std.proofs.lemmas.List.{take_all}
-use Rattle.lane_core.specs.Named.{ChangesBelow}
+use Rattle.lane_core.specs.Opened.{ChangesBelow}
 use Rattle.lane_core.proofs.RoomLaws.{all_below_more, max_most}
 use Rattle.lane_core.proofs.room.name_count.Goals as goal
 

@@ -1,13 +1,13 @@
 use Rattle.std.proofs.Common.{◌≡◌, ℕ, ◌+◌, ◌<◌, ◌≤◌, Bool, true, false, List, length, drop, sym, ap, ◌∙◌, arith}
 use Rattle.std.specs.Prelude.{◌&&◌, max, nat_le}
 use Rattle.pool_law.specs.declared.command.Command.{Command}
-use Rattle.lane_core.specs.Contexts.{left_for}
+use Rattle.lane_context.specs.Contexts.{left_for}
 use Rattle.lane_core.specs.Lanes.{Heeds, number_of}
 use Rattle.lane_core.specs.declared.lane.Lane.{Lane}
 use Rattle.pool_law.specs.LaneLaw.{before_stop, replies_in}
 use Rattle.lane_core.proofs.LaneTurns.{front_is, none_left, begin_state, begun_lane, begun_same, begun_so, begun_heeds}
 use Rattle.lane_core.proofs.LaneCloses.{first_context, first_room, closes_lane, closes_same, closes_so, closes_heeds}
-use Rattle.lane_core.proofs.BeginTurns.{within_same}
+use Rattle.lane_context.proofs.BeginTurns.{within_same}
 use Rattle.lane_core.proofs.Carrying.{begin_may}
 use Rattle.lane_core.proofs.EitherLane.{stopped_is, running_is}
 use Rattle.lane_core.proofs.StoppedKept.{stops_lane}

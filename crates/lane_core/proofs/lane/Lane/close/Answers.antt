@@ -2,12 +2,12 @@ use Rattle.std.proofs.Common.{◌≡◌, [], refl, sym, ap, ◌∙◌, subst}
 use Rattle.pool_law.specs.Patterns.{closing}
 use Rattle.shared_pool.specs.SeatViews.{view_of}
 use Rattle.lane_stages.specs.declared.draining.DrainKind.TheVariants.{Close}
-use Rattle.lane_core.specs.declared.context.Stage.{Stage}
-use Rattle.lane_core.specs.declared.context.Stage.TheVariants.{Closing}
+use Rattle.lane_context.specs.declared.context.Stage.{Stage}
+use Rattle.lane_context.specs.declared.context.Stage.TheVariants.{Closing}
 use Rattle.lane_core.specs.declared.lane.Lane.{Lane}
 use Rattle.lane_stages.specs.declared.stepped.Stepped.{Stepped}
 use Rattle.lane_stages.specs.Drainings as draining
-use Rattle.lane_core.specs.Contexts.{HasRoomFor}
+use Rattle.lane_context.specs.Contexts.{HasRoomFor}
 use Rattle.seat_work.specs.Readings.{ReadsOn}
 use Rattle.lane_stages.specs.Readings.{none_asked}
 use Rattle.lane_core.specs.Lanes.{Heeds, IsLane, SameLane, commands_left, entries_since, number_of}

@@ -1,5 +1,5 @@
 use Rattle.std.proofs.Common.{false, refl}
-use Rattle.lane_core.specs.declared.context.Stage.TheVariants.{Ready}
+use Rattle.lane_context.specs.declared.context.Stage.TheVariants.{Ready}
 use Rattle.lane_core.proofs.Heeding.{heeds_first}
 use Rattle.lane_core.proofs.OpenedLaws.{IsLane-first}
 use Rattle.lane_core.proofs.lane.Lane.new.Goals as goal

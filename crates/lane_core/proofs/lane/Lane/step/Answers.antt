@@ -4,16 +4,16 @@ use Rattle.pool_law.specs.declared.command.Command.{Command}
 use Rattle.shared_pool.specs.declared.pool.SharedPool.{SharedPool}
 use Rattle.lane_core.specs.declared.lane.Lane.{Lane}
 use Rattle.shared_pool.specs.SeatViews.{view_of}
-use Rattle.lane_core.specs.declared.context.Stage.{Stage}
-use Rattle.lane_core.specs.declared.context.Stage.TheVariants.{Ready, Closing}
+use Rattle.lane_context.specs.declared.context.Stage.{Stage}
+use Rattle.lane_context.specs.declared.context.Stage.TheVariants.{Ready, Closing}
 use Rattle.lane_stages.specs.declared.draining.Draining.TheVariants.{Done}
 use Rattle.pool_law.specs.LaneStates.{LaneState}
-use Rattle.lane_core.specs.Named.{NamesAre}
+use Rattle.lane_context.specs.Named.{NamesAre}
 use Rattle.lane_stages.specs.declared.stepped.Stepped.{Stepped}
-use Rattle.lane_core.specs.Contexts.{IsContext, hand_of, Fits, NameFits, IsUnderway, HasTurned, HasRoomFor, left_at}
+use Rattle.lane_context.specs.Contexts.{IsContext, hand_of, Fits, NameFits, IsUnderway, HasTurned, HasRoomFor, left_at}
 use Rattle.lane_core.specs.Lanes.{Heeds, IsLane, IsRunningLane, SameLane, number_of}
 use Rattle.lane_core.specs.Steps.{HasStepped, at_stage}
-use Rattle.lane_core.proofs.StageCases.{underway}
+use Rattle.lane_core.proofs.StageKinds.{underway}
 use Rattle.lane_core.proofs.LaneTurns.{underway_room, underway_replies, underway_lane, underway_same, underway_so, underway_heeds}
 use Rattle.lane_core.proofs.EitherLane.{running_is, lane_or, lane_context}
 use Rattle.lane_core.proofs.lane.Lane.step.Goals as goal

@@ -1,0 +1,10 @@
+pub mod AccessLaws
+pub mod AccessNames
+pub mod RefusalLists
+pub mod CompositionTests
+pub mod CompositionLaws
+pub mod CompositionReads
+pub mod Makeable
+pub mod PlanReads
+pub mod PlanParts
+pub mod PlanCommands

@@ -1,0 +1,10 @@
+#![tactic(auto)]
+//! What a command of a lane is to do, and all memory for it, before its first note.
+
+mod composing;
+mod planning;
+mod preparing;
+mod refusing;
+
+pub use planning::plan;
+pub use preparing::prepare;
