@@ -16,3 +16,12 @@ pub mod FrontLemmas
 pub mod WholeLemmas
 pub mod ReachLemmas
 pub mod UnlikeLemmas
+pub mod GoesOn
+pub mod TurnGoesOn
+pub mod CutLemmas
+pub mod TakenLemmas
+pub mod UniqueLemmas
+pub mod StoppedLemmas
+pub mod CuttingLemmas
+pub mod JoinLemmas
+pub mod NoteCountLemmas

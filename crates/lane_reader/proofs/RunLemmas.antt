@@ -193,3 +193,19 @@ stop-next rs i r there is other =
 
 pub stop-past : (rs : List Answered) (i : ℕ) → length rs ≤ i → before_stop (replies_in (drop i rs)) ≡ 0
 stop-past rs i past = ap (λ (these : List Answered). before_stop (replies_in these)) (drop_all i rs past)
+
+-- the same of replies alone
+pub reply-stop : (replies : List Reply) (i : ℕ) (r : Reply) → i < length replies → r ≡ get_or replies i r →
+    same_reply Reply.Stopped r ≡ true → before_stop (drop i replies) ≡ 0
+reply-stop replies i r there is same =
+    ap (λ (these : List Reply). before_stop these) (next-item replies i r there is)
+    ∙ stop-here r (drop (i + 1) replies) same
+
+pub reply-next : (replies : List Reply) (i : ℕ) (r : Reply) → i < length replies → r ≡ get_or replies i r →
+    same_reply Reply.Stopped r ≡ false → before_stop (drop i replies) ≡ suc (before_stop (drop (i + 1) replies))
+reply-next replies i r there is other =
+    ap (λ (these : List Reply). before_stop these) (next-item replies i r there is)
+    ∙ stop-later r (drop (i + 1) replies) other
+
+pub reply-past : (replies : List Reply) (i : ℕ) → length replies ≤ i → before_stop (drop i replies) ≡ 0
+reply-past replies i past = ap (λ (these : List Reply). before_stop these) (drop_all i replies past)

@@ -18,12 +18,12 @@ use Rattle.lane_reader.specs.Unlike.{AreAnswered}
 use Rattle.lane_reader.proofs.FrontLemmas.{noted, noted-sum, drop-noted}
 use Rattle.lane_reader.proofs.RunLemmas.{run-goes, run-first, stop-reply, stop-read, stop-goes, stop-here, stop-later, stop-within}
 
-take-replies : (rs : List Answered) (n : ℕ) → replies_in (take n rs) ≡ take n (replies_in rs)
+pub take-replies : (rs : List Answered) (n : ℕ) → replies_in (take n rs) ≡ take n (replies_in rs)
 take-replies rs zero = refl
 take-replies [] (suc n) = refl
 take-replies (r ∷ rs) (suc n) = ap (λ (replies : List Reply). r.reply ∷ replies) (take-replies rs n)
 
-drop-replies : (rs : List Answered) (n : ℕ) → replies_in (drop n rs) ≡ drop n (replies_in rs)
+pub drop-replies : (rs : List Answered) (n : ℕ) → replies_in (drop n rs) ≡ drop n (replies_in rs)
 drop-replies rs zero = refl
 drop-replies [] (suc n) = refl
 drop-replies (r ∷ rs) (suc n) = drop-replies rs n
@@ -99,7 +99,7 @@ stopped-lengths lane (c ∷ cs) (es ∷ groups) replies e =
     go (Some p) (Some q) e same = ap (λ n. suc n) (same q refl)
 
 -- where the stop is among the first so many replies
-stop-first : (replies : List Reply) (k : ℕ) → before_stop (take k replies) ≡ min k (before_stop replies)
+pub stop-first : (replies : List Reply) (k : ℕ) → before_stop (take k replies) ≡ min k (before_stop replies)
 stop-first replies zero = omega arith
 stop-first [] (suc k) = omega arith
 stop-first (reply ∷ replies) (suc k) = go (same_reply Reply.Stopped reply) refl (stop-first replies k)

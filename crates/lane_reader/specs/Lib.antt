@@ -14,3 +14,4 @@ pub mod Refusing
 pub mod Turning
 pub mod Running
 pub mod Unlike
+pub mod Cutting

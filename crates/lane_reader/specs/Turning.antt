@@ -3,9 +3,9 @@ use Rattle.std.specs.Prelude.{◌≡◌, Option, Some, None}
 use Rattle.pool_law.specs.declared.command.Command.{Command}
 use Rattle.pool_law.specs.declared.run.Reply.{Reply}
 use Rattle.pool_law.specs.Refusals.{first_refusal, refusals}
-use Rattle.pool_law.specs.LaneStates.{LaneState}
+use Rattle.pool_law.specs.LaneStates.{LaneState, log_at}
 use Rattle.pool_law.specs.LaneLaw.{sweep_period, lane_step}
-use Rattle.pool_law.specs.Lanes.{carried_out, answer_of}
+use Rattle.pool_law.specs.Lanes.{carried_out, answer_of, turn}
 use Rattle.pool_law.specs.Readers.{ToldNotes}
 use Rattle.lane_reader.specs.declared.log.Log.{Log}
 use Rattle.lane_reader.specs.declared.log.At.{At}
@@ -14,7 +14,7 @@ use Rattle.lane_reader.specs.declared.candidate.Candidate.{Candidate}
 use Rattle.lane_reader.specs.declared.lane.Lane.{Lane}
 use Rattle.lane_reader.specs.declared.setting.Setting.{Setting}
 use Rattle.lane_reader.specs.Candidates.{candidate_of, IsCandidate}
-use Rattle.lane_reader.specs.Reading.{log_from}
+use Rattle.lane_reader.specs.Reading.{entries, log_from}
 use Rattle.lane_reader.specs.Replying.{where_said, changes}
 use Rattle.lane_reader.specs.Standing.{IsLane}
 
@@ -44,6 +44,15 @@ abbrev pub Answers :
 Answers setting lane command reply log at got =
     (s : LaneState) → IsLane lane s →
     where_said reply (answer_of setting.shape.now setting.lane s command (log_from s.seen log at))
+    ≡ changes s log got
+
+-- what a command and the sweep that is then due come to, where it is answered this; more notes may
+-- be left
+abbrev pub TurnsOn : Setting → Lane → Command → Reply → Log → Option (Change × At) → Type 0
+TurnsOn setting lane command reply log got =
+    (s : LaneState) → IsLane lane s →
+    where_said reply
+    (turn sweep_period setting.shape.now setting.lane s command (log_at s (entries log)))
     ≡ changes s log got
 
 -- exactly these are the notes of a command with this reply, and this is the lane behind it

@@ -17,8 +17,8 @@ use crate::setting::Setting;
 use pool_law::{Answered, Command};
 use std::alloc::{AllocError, Global};
 
-// The place and the count of a new lane.
-const FIRST: At = At { place: 0, asked: 0 };
+/// The place and the count of a new lane.
+pub(crate) const FIRST: At = At { place: 0, asked: 0 };
 
 /// How far commands have their replies and notes.
 #[derive(Clone, Copy, Drop)]

@@ -1,6 +1,6 @@
 //! One command of a lane, with its notes and its reply.
 
-ghost use Rattle.std.specs.Prelude.{◌≡◌, ◌+◌, ◌-◌, ◌<◌, ◌≤◌, ◌^◌, ℕ, length, IfOk, IfSome, true, false};
+ghost use Rattle.std.specs.Prelude.{◌≡◌, ◌+◌, ◌-◌, ◌<◌, ◌≤◌, ◌^◌, ℕ, length, take, IfOk, IfSome, MatchOption, true, false};
 ghost use Rattle.pool_law.specs.LaneStates.{LaneState};
 ghost use Rattle.pool_law.specs.LaneLaw.{sweep_period};
 ghost use Rattle.lane_reader.specs.Bounding.{AreBounded, ChangeIsBounded};
@@ -10,7 +10,7 @@ ghost use Rattle.lane_reader.specs.Reading.{entries, log_from};
 ghost use Rattle.lane_reader.specs.Replying.{reply_of, where_said, changes};
 ghost use Rattle.lane_reader.specs.Running.{refused_by, Turns};
 ghost use Rattle.lane_reader.specs.Standing.{IsLane};
-ghost use Rattle.lane_reader.specs.Turning.{Answers, HasTurned, HasNotTurned};
+ghost use Rattle.lane_reader.specs.Turning.{Answers, HasTurned, HasNotTurned, TurnsOn};
 
 use crate::bound::Change;
 use crate::lane::Lane;
@@ -68,6 +68,38 @@ impl Log<'_> {
         Some((Change::Same, behind))
     }
 
+    // What becomes of the names by a command, and the place behind its notes, where the log begins
+    // with them, the sweep that is then due among them.
+    fn turned_on(
+        &self,
+        alloc: Global,
+        setting: &Setting,
+        lane: &Lane,
+        command: &Command,
+        reply: &Reply,
+    ) -> Result<Option<(Change, At)>, AllocError>
+        requires asked { lane.now.asked < sweep_period }
+        requires names { HasFewNames command.now }
+        requires bounded { AreBounded (2 ^ 32) lane.now }
+        requires room { AreWithin lane.now.counts (2 ^ 64 - 1 - length self.now.notes.now) }
+        ensures row { IfOk result (TurnsOn setting.now lane.now command.now reply.now self.now) }
+        ensures asked { IfOk result (λ got. IfSome got (λ p. p.1.asked < sweep_period)) }
+        ensures bounded { (most : ℕ) → 1 ≤ most → AreBounded most lane.now
+            → IfOk result (λ got. IfSome got (λ p. ChangeIsBounded (most + 1) p.0)) }
+    {
+        let first = At {
+            place: 0,
+            asked: lane.asked,
+        };
+        let Some((change, at)) = self.answered(alloc, first, setting, lane, command, reply)? else {
+            return Ok(None);
+        };
+        let Some(behind) = self.sweep_if_due(at, setting.lane) else {
+            return Ok(None);
+        };
+        Ok(Some((change, behind)))
+    }
+
     // What becomes of the names by a command, and how many allocations have asked a cache behind
     // it, where exactly the log's notes are its own, the sweep that is then due among them.
     fn turned(
@@ -87,14 +119,7 @@ impl Log<'_> {
         ensures bounded { (most : ℕ) → 1 ≤ most → AreBounded most lane.now
             → IfOk result (λ got. IfSome got (λ p. ChangeIsBounded (most + 1) p.0)) }
     {
-        let first = At {
-            place: 0,
-            asked: lane.asked,
-        };
-        let Some((change, at)) = self.answered(alloc, first, setting, lane, command, reply)? else {
-            return Ok(None);
-        };
-        let Some(behind) = self.sweep_if_due(at, setting.lane) else {
+        let Some((change, behind)) = self.turned_on(alloc, setting, lane, command, reply)? else {
             return Ok(None);
         };
         if behind.place < self.notes.len() {
@@ -137,5 +162,43 @@ impl Lane {
         self.pass(log)?;
         self.asked = asked;
         Ok(true)
+    }
+
+    /// Goes on by a command, if the log begins with its notes, as they are with this reply, the sweep
+    /// that is then due among them. So many they are.
+    pub(crate) fn turn_on(
+        &mut self,
+        alloc: Global,
+        setting: &Setting,
+        command: &Command,
+        reply: &Reply,
+        log: &Log,
+    ) -> Result<Option<usize>, AllocError>
+        requires asked { self.old.asked < sweep_period }
+        requires names { HasFewNames command.now }
+        requires bounded { AreBounded (2 ^ 32) self.old }
+        requires room { AreWithin self.old.counts (2 ^ 64 - 1 - length log.now.notes.now) }
+        ensures row { (s : LaneState) → IsLane self.old s → IfOk result (λ got. MatchOption got
+            ((count : ℕ)
+            → HasNotTurned setting.now s command.now reply.now (take count (entries log.now)))
+            (λ count. HasTurned setting.now s command.now reply.now
+            (take count (entries log.now)) self.new)) }
+        ensures within { IfOk result (λ got. IfSome got
+            (λ count. count ≤ length log.now.notes.now)) }
+        ensures asked { IfOk result (λ got. IfSome got (λ count. self.new.asked < sweep_period)) }
+        ensures bounded { (most : ℕ) → 1 ≤ most → AreBounded most self.old
+            → IfOk result (λ got. IfSome got (λ count. AreBounded (most + 1) self.new)) }
+        ensures counted { (most : ℕ) → AreWithin self.old.counts most
+            → IfOk result (λ got. IfSome got (λ count. AreWithin self.new.counts (most + count))) }
+    {
+        let Some((change, at)) = log.turned_on(alloc, setting, self, command, reply)? else {
+            return Ok(None);
+        };
+        let count = at.place.min(log.notes.len());
+        let piece = log.first(count);
+        self.change(change)?;
+        self.pass(&piece)?;
+        self.asked = at.asked;
+        Ok(Some(count))
     }
 }
