@@ -25,7 +25,7 @@ mail-held logs mails (Bin lane) = tt
 mail-held logs mails (Mail sender receiver) = mails sender receiver
 mail-held logs mails (Root place) = tt
 
-object-holds : (shape : Shape) (logs : Logs) → HistoriesHold shape logs → (object : Object) →
+pub object-holds : (shape : Shape) (logs : Logs) → HistoriesHold shape logs → (object : Object) →
     ObjectHolds shape logs object
 object-holds shape logs holds object = record {
   whole = holds.whole object;

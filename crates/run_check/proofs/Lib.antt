@@ -22,3 +22,4 @@ mod TotalLemmas
 mod EnteringLemmas
 mod CheckingLemmas
 pub mod BreachLemmas
+mod CutLemmas

@@ -14,3 +14,4 @@ pub mod Needing
 pub mod Checking
 pub mod Placing
 pub mod Breaches
+pub mod Cutting

@@ -27,8 +27,8 @@ use object_steps::{PlaceTold, Sizes};
 use pool_law::{CommandList, LaneLog, Shape};
 use std::alloc::{AllocError, Global};
 
-// The log of a lane, with what is told of its notes.
-fn log_at<'a>(logs: &'a [LaneLog], told: &'a [Vec<PlaceTold>], lane: usize) -> Log<'a>
+/// The log of a lane, with what is told of its notes.
+pub(crate) fn log_at<'a>(logs: &'a [LaneLog], told: &'a [Vec<PlaceTold>], lane: usize) -> Log<'a>
     requires told { AreTold (notes_in logs.now) told.now logs.now }
     requires there { lane < length logs.now }
     ensures entries { entries result ≡ of_lane (entries_of (notes_in logs.now)) lane }
