@@ -1,4 +1,5 @@
 pub mod Answering
+pub mod Derived
 pub mod Ending
 pub mod Knowing
 pub mod Lines

@@ -1,5 +1,5 @@
--- What lines say of roots and regions: of each, the last line that says anything of it. No public clause cites
--- this module.
+-- What lines say of roots and regions: of each, the last line that says anything of it. So a
+-- text determines what the lines of its notes leave out.
 use Rattle.std.specs.Prelude.{◌≡◌, ℕ, zero, suc, ◌<◌, ◌%◌, ◌&&◌, nat_eq, Bool, if◌then◌else◌, List, [], ◌∷◌, ◌++◌, ◌+◌, map, Option, Some, None, option_and_then, unwrap_or}
 use Rattle.std.specs.Option.{option_map, option_or}
 use Rattle.pool_law.specs.declared.id.RegionId.{RegionId}

@@ -1,5 +1,5 @@
--- What the line of a note tells of it: 0 stands for a number that the line leaves out. No public clause cites
--- this module.
+-- What the line of a note tells of it: 0 stands for a number that the line leaves out. A run that its text
+-- determines has such notes.
 use Rattle.std.specs.Prelude.{◌≡◌, ℕ, ◌^◌, ◌<◌, Option, Some, None}
 use Rattle.hex.specs.Hex.{IsBytes}
 use Rattle.pool_law.specs.declared.id.Place.{Place}

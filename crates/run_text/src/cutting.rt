@@ -1,38 +1,53 @@
-//! How many notes each command of a lane made.
+//! How many notes each command of a lane made, as far as the notes tell: of lanes that no law reads.
 
 use crate::bound::{Bound, Standing};
 use crate::cutter::Cutter;
 use crate::known::{RootKey, key_of};
-use pool_law::{Answered, Command, Did, Note, Reply, ReplyList};
+use pool_law::{Command, CommandList, Did, LaneLog, Note, Reply};
 use std::alloc::{AllocError, Global};
 
 // The most parts of a composite that isn't copied to a root of its own.
 const MOST_PARTS: usize = 16;
 
-/// The replies of a lane, each with how many notes its command made.
-pub fn answered_by(
+/// How many notes each command of each lane made, as far as the notes tell. Where no law reads a lane, its
+/// numbers may be any.
+pub fn counts_told(
+    alloc: Global,
+    lanes: &[CommandList],
+    replies: &[Vec<Reply>],
+    logs: &[LaneLog],
+) -> Result<Vec<Vec<usize>>, AllocError> {
+    let mut all = Vec::new(alloc);
+    for lane in 0..logs.len().min(lanes.len()).min(replies.len()) {
+        let notes = logs[lane].notes.items();
+        let counts = lane_counts(alloc, lanes[lane].items(), &replies[lane], notes)?;
+        all.push(counts)?;
+    }
+    Ok(all)
+}
+
+// The same of one lane.
+fn lane_counts(
     alloc: Global,
     commands: &[Command],
-    replies: Vec<Reply>,
+    replies: &[Reply],
     notes: &[Note],
-) -> Result<ReplyList, AllocError> {
+) -> Result<Vec<usize>, AllocError> {
     let mut cutter = Cutter {
         notes,
         at: 0,
         standing: Standing::new(alloc),
     };
-    let mut answered = Vec::new(alloc);
+    let mut counts = Vec::new(alloc);
     for reply in replies {
         let from = cutter.at;
-        if let Some(command) = commands.get(answered.len()) {
-            cutter.answer(command, &reply)?;
+        if let Some(command) = commands.get(counts.len()) {
+            cutter.answer(command, reply)?;
             cutter.sweep()?;
         }
-        let count = cutter.at.saturating_sub(from);
-        let notes = u32::try_from(count).unwrap_or(u32::MAX);
-        answered.push(Answered { reply, notes })?;
+        counts.push(cutter.at.saturating_sub(from))?;
     }
-    Ok(ReplyList::of(answered))
+    Ok(counts)
 }
 
 impl Cutter<'_> {

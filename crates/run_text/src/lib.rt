@@ -15,6 +15,7 @@ mod ends;
 mod filling;
 mod known;
 mod lines;
+mod logs;
 mod making;
 mod notes;
 mod objects;

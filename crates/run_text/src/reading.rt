@@ -1,24 +1,24 @@
 //! From a text to its run.
 
-ghost use Rattle.std.specs.Prelude.{◌≡◌, ◌≢◌, ◌+◌, ◌++◌, ◌<◌, [], length, map, List, IsTrue, IfOk, MatchResult};
+ghost use Rattle.std.specs.Prelude.{◌≡◌, ◌≢◌, ◌+◌, ◌++◌, ◌<◌, ◌↔◌, [], true, length, map, List, IsTrue, IfOk, MatchResult};
 ghost use Rattle.std.specs.List.{All};
-ghost use Rattle.pool_law.specs.Text.{Text};
+ghost use Rattle.pool_law.specs.Text.{Text, text_of};
 ghost use Rattle.pool_law.specs.declared.note.Note.{Note};
+ghost use Rattle.pool_law.specs.declared.run.Run.{Run};
+ghost use Rattle.run_text.specs.Derived.{IsDerived};
 ghost use Rattle.run_text.specs.Knowing.{FitsLine, line_text, line_told, notes_in};
 ghost use Rattle.run_text.specs.Lines.{AreTold, Line, told_from};
 ghost use Rattle.run_text.specs.Reads.{Reads};
 ghost use Rattle.run_text.specs.declared.TextNo.TheVariants.{Memory};
 
-use crate::cutting::answered_by;
 use crate::ends::{chunks_of, leaks_of};
 use crate::lines::{end_of, lines_of, refusal_of, words_behind};
+use crate::logs::logs_of;
 use crate::making::Making;
 use crate::notes::note_line;
 use crate::replies::replies_of;
 use crate::{LineNo, TextNo};
-use pool_law::{
-    ChunkEnds, CommandList, LaneLog, LaneLogs, LeakList, Note, NoteList, Reply, Run, Shape, Trace,
-};
+use pool_law::{ChunkEnds, CommandList, LaneLog, LaneLogs, LeakList, Note, Run, Shape, Trace};
 use run_report::text_of;
 use std::alloc::{AllocError, Global};
 
@@ -32,14 +32,16 @@ struct TextParts {
 
 /// The run of this trace and shape that has this text, with its history, as `poolrun` prints it.
 ///
-/// What the text leaves out is derived, so that a legal run with this text is found. Where the pool can't
-/// have made this text, what is derived may be anything: whether the run is legal is to be asked of
-/// `run_check`. A line that is refused is the first that can't be understood, or in which the text of the
-/// run that was derived differs. `Memory` comes only for want of memory; nothing is proved of the other refusals'
-/// causes. Takes time linear in the length of the text, but for a search among the births and growths at each
-/// of them and at each end.
+/// What the text leaves out is derived. Where there is a run with this text whose lanes' logs are of the law, and
+/// which the lines determine otherwise, it is found, and nothing but want of memory refuses it. Where there is
+/// none, as of a text that the pool can't have made, what is derived may be anything: whether the run is
+/// legal is to be asked of `run_check`. A line that is refused is the first that can't be understood, or in which
+/// the text of the run that was derived differs. Takes time linear in the length of the text, but for a
+/// search among the births and growths at each of them and at each end, and among the objects at each note.
 pub fn read_run(alloc: Global, trace: Trace, shape: Shape, text: &str) -> Result<Run, TextNo>
-    ensures { IfOk result (λ run. Reads trace shape text.now run) }
+    ensures found { IfOk result (λ run. Reads trace shape text.now run) }
+    ensures same { (other : Run) → Reads trace shape text.now other → IsDerived other
+        → MatchResult result (λ run. run ≡ other) (λ no. no ≡ Memory) }
 {
     let TextParts {
         logs,
@@ -70,12 +72,17 @@ fn told_by(
     lanes: &[CommandList],
     shape: &Shape,
     text: &str,
-) -> Result<TextParts, TextNo> {
+) -> Result<TextParts, TextNo>
+    ensures { (run : Run) → run.trace.lanes ≡ lanes.now → run.shape ≡ shape.now
+        → text_of run true ≡ text.now → IsDerived run
+        → MatchResult result (λ parts. (parts.logs ≡ run.logs) × (parts.chunks ≡ run.chunks)
+        × (parts.leaks ≡ run.leaks)) (λ no. no ≡ Memory) }
+{
     let lines = lines_of(alloc, text)?;
     let (replies, from) = replies_of(alloc, lanes, &lines)?;
     let to = end_of(&lines, from, "note ");
     let notes = notes_of(alloc, lanes.len(), shape.arenas, &lines, from, to)?;
-    let logs = logs_of(alloc, lanes, replies, notes)?;
+    let logs = logs_of(alloc, lanes, shape, replies, notes)?;
     let end = end_of(&lines, to, "chunk ");
     Ok(TextParts {
         logs,
@@ -131,27 +138,9 @@ fn told_in(
     Ok(told)
 }
 
-// The logs of the lanes.
-fn logs_of(
-    alloc: Global,
-    lanes: &[CommandList],
-    replies: Vec<Vec<Reply>>,
-    notes: Vec<Vec<Note>>,
-) -> Result<LaneLogs, AllocError> {
-    let mut logs = Vec::new(alloc);
-    for (replies, notes) in replies.into_iter().zip(notes) {
-        if let Some(commands) = lanes.get(logs.len()) {
-            let replies = answered_by(alloc, commands.items(), replies, &notes)?;
-            let notes = NoteList::of(notes);
-            logs.push(LaneLog { replies, notes })?;
-        }
-    }
-    Ok(LaneLogs::of(logs))
-}
-
 // Whether each lane has a log, and each command a reply.
 fn answers_all(lanes: &[CommandList], logs: &[LaneLog]) -> bool
-    ensures { IsTrue result → map (λ log. length log.replies) logs.now ≡ map length lanes.now }
+    ensures { IsTrue result ↔ (map (λ log. length log.replies) logs.now ≡ map length lanes.now) }
 {
     if lanes.len() != logs.len() {
         return false;
