@@ -182,7 +182,8 @@ module _ (shape : Shape) (lane : ℕ) (cs : List Command) (replies : List Reply)
           let all : Runs shape lane new_lane (take at cs ++ c ∷ []) (r.so.first ++ with_count other count ∷ []) es
           longer.last =
           subst
-          (λ (bs : List Command). Runs shape lane new_lane bs (r.so.first ++ with_count other count ∷ []) es longer.last)
+          (λ (bs : List Command).
+          Runs shape lane new_lane bs (r.so.first ++ with_count other count ∷ []) es longer.last)
           with-one longer.runs in
           let step :
           lane_step sweep_period shape lane r.state c (take count (drop (noted r.so.first) es))
@@ -217,7 +218,8 @@ module _ (shape : Shape) (lane : ℕ) (cs : List Command) (replies : List Reply)
               is = is;
               runs =
                   subst
-                  (λ (bs : List Command). Runs shape lane new_lane bs (r.so.first ++ with_count reply count ∷ []) es last)
+                  (λ (bs : List Command).
+                  Runs shape lane new_lane bs (r.so.first ++ with_count reply count ∷ []) es last)
                   (sym with-one ∙ ap (λ (k : ℕ). take k cs) further) more;
             }
 

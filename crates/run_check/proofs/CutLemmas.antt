@@ -95,7 +95,8 @@ pub cuts-further : (P : ℕ → List ℕ → Type 0) (cuts new : List (Vec ℕ G
     → P n counts.items → (k : ℕ) → k < n + 1 → P k (of_lane (counts_in new) k)
 cuts-further P cuts new counts n long is so here k there =
     let all : counts_in new ≡ counts_in cuts ++ counts.items ∷ [] =
-    ap (λ (vs : List (Vec ℕ Global)). counts_in vs) is ∙ map-append (λ (v : Vec ℕ Global). v.items) cuts (counts ∷ []) in
+    ap (λ (vs : List (Vec ℕ Global)). counts_in vs) is
+    ∙ map-append (λ (v : Vec ℕ Global). v.items) cuts (counts ∷ []) in
     let size : length (counts_in cuts) ≡ n = length-map cuts (λ (v : Vec ℕ Global). v.items) ∙ long in
     ⊎_elim
     (λ less.

@@ -35,7 +35,8 @@ log-some shape lane cs rs es log none =
     closes-some lane (behind (note_counts rs) es) log.closed (behind-none (note_counts rs) es none)
 
 -- what is told of a lane's notes
-lane-entries : (logs all : Logs) (k : ℕ) → of_lane (map (map (entry_of all)) logs) k ≡ map (entry_of all) (of_lane logs k)
+lane-entries : (logs all : Logs) (k : ℕ)
+    → of_lane (map (map (entry_of all)) logs) k ≡ map (entry_of all) (of_lane logs k)
 lane-entries [] all k = refl
 lane-entries (log ∷ logs) all zero = refl
 lane-entries (log ∷ logs) all (suc k) = lane-entries logs all k

@@ -115,8 +115,8 @@ loop-lane-preserved c =
       read =
           cuts-further
           (λ k ns. (length ns ≡ length (of_lane lanes k))
-          × AreNoteCounts shape k (of_lane lanes k) (of_lane (lists_in replies) k) (of_lane (entries_of (notes_in logs)) k)
-          ns)
+          × AreNoteCounts shape k (of_lane lanes k) (of_lane (lists_in replies) k)
+          (of_lane (entries_of (notes_in logs)) k) ns)
           c.loop-lane.cuts.items c.push.new.self.items c.in_ok-counts.counts lane c.loop-lane.invariant.many
           c.in_ok-push.ensures.items c.loop-lane.invariant.read (
             whole ∙ sym (ap (λ (cs : List Command). length cs) commands),
