@@ -101,6 +101,29 @@ def try_refusals(cut):
         expect(f"frame_cut {words} < a file", ran=(ran, (REFUSED, "", "refused length 0\n")), read=(read, block))
 
 
+def try_limits(cut):
+    """Where streams end, and which of two limits is told that one byte meets."""
+    page, most = bytes_of(1024 - HEAD), bytes_of(LENGTH_LIMIT)
+    full = stream_of([page] * FRAME_LIMIT)
+    long = stream_of([most] + [page] * 64_511)
+    begun, last = head(LENGTH_LIMIT + 1)[:3], head(LENGTH_LIMIT + 1)[3:]
+    for name, stream, line in (
+        ("a byte", b"\0", "frame 0"),
+        ("a length alone", head(258), "frame 0"),
+        ("a byte less", head(258) + bytes(257), "frame 0"),
+        ("a byte less than the longest frame", stream_of([most])[:-1], "frame 0"),
+        ("a byte less of most bytes, and one more frame", full[:-1024] + stream_of([page[1:]]) + b"\0", "frames"),
+        ("most bytes that end inside a frame", long + head(1020) + bytes(1016), "frame 64512"),
+        ("a byte more", long + head(1020) + bytes(1017), "stream"),
+        ("most bytes that end inside a length", long + stream_of([bytes(1013)]) + begun, "frame 64513"),
+        ("its last byte", long + stream_of([bytes(1013)]) + begun + last, "stream"),
+        ("its last byte among most bytes", long + stream_of([bytes(1012)]) + begun + last, "length 64513"),
+    ):
+        expect(f"frame_cut < {name}", ran=(run(cut, [], stream), (REFUSED, "", f"refused {line}\n")))
+    for name, frames in (("258 bytes", [bytes(258)]), ("most bytes in most frames", [page] * FRAME_LIMIT)):
+        expect(f"frame_cut < {name}", ran=(run(cut, [], stream_of(frames)), (WHOLE, text_of(frames), "")))
+
+
 def try_words(cut):
     for words in ("--workers 15 --block=1024", "--workers=1 --block 65536", "--block 1024", ""):
         expect(f"frame_cut {words}", ran=(run(cut, words.split(), stream_of(ABC)), (WHOLE, ABC_TEXT, "")))
@@ -112,6 +135,7 @@ def try_words(cut):
 def try_frames(cut):
     try_whole(cut)
     try_refusals(cut)
+    try_limits(cut)
     try_words(cut)
     stream = stream_of(ABC)
     for workers in (1, 4):

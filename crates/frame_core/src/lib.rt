@@ -6,8 +6,6 @@
 mod cutter;
 mod frame;
 mod limits;
-#[cfg(test)]
-mod tests;
 
 pub use cutter::Cutter;
 pub use frame::{Cut, FrameNo};

@@ -4,7 +4,5 @@
 //! of streams.
 
 mod slicer;
-#[cfg(test)]
-mod tests;
 
 pub use slicer::{Found, Slicer};

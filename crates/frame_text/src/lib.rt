@@ -4,8 +4,6 @@
 
 mod lines;
 mod refusals;
-#[cfg(test)]
-mod tests;
 
 pub use lines::{write_end, write_frame};
 pub use refusals::refusal_line;

@@ -3,8 +3,6 @@
 
 mod asked;
 mod settings;
-#[cfg(test)]
-mod tests;
 mod words;
 
 pub use words::{CutOptions, read_words};

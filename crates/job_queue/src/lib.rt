@@ -4,7 +4,5 @@
 //! pushed. Stands on the queue of `crossbeam_queue`, under a rule.
 
 mod jobs;
-#[cfg(test)]
-mod tests;
 
 pub use jobs::{InOrder, Job, JobEnd, JobLog, JobQueue, ROOM, new_queue, pop, push, reunite};

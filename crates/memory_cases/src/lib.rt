@@ -1,11 +1,9 @@
 #![tactic(auto)]
-//! Ground, runs, elements, chunks and arenas as their callers use them.
+//! Ground, runs, elements, lists of chunks and tables of sizes as their callers use them.
 //!
 //! A crate with tests is proved twice, once with them; these stand over the crates as they are built,
 //! so that they aren't proved again for them.
 
-#[cfg(test)]
-mod arenas;
 #[cfg(test)]
 mod classes;
 #[cfg(test)]

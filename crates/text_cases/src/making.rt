@@ -1,47 +1,9 @@
 //! Generated traces, told as texts.
+use crate::traces::told_trace;
 use pool_law::{Command, Trace};
 use std::alloc::{AllocError, Global};
 use std::test::Fail;
 use trace_make::*;
-
-/// The commands of each lane, a `;` behind each; a lane begins with `|`.
-fn told(alloc: Global, trace: &Trace) -> Result<String, AllocError> {
-    let mut text = String::new(alloc);
-    for lane in trace.lanes.items() {
-        text.push_str("|")?;
-        for command in lane.items() {
-            text.push_str(told_command(alloc, command)?.as_str())?;
-        }
-    }
-    Ok(text)
-}
-
-fn told_command(alloc: Global, command: &Command) -> Result<String, AllocError> {
-    match command {
-        Command::Alloc { name, size } => format!(in alloc; "alloc {name} {size};"),
-        Command::Set {
-            name,
-            at,
-            bytes,
-            ..
-        } => {
-            let bytes = bytes.items();
-            format!(in alloc; "set {name} {at} {bytes:?};")
-        }
-        Command::Get { name, at, len, .. } => format!(in alloc; "get {name} {at} {len};"),
-        Command::Slice {
-            fresh,
-            name,
-            at,
-            len,
-            ..
-        } => { format!(in alloc; "slice {fresh} {name} {at} {len};") }
-        Command::Release { name } => format!(in alloc; "release {name};"),
-        Command::Send { name, lane } => format!(in alloc; "send {name} {lane};"),
-        Command::Recv { fresh, lane } => format!(in alloc; "recv {fresh} {lane};"),
-        _ => String::from_str(alloc, "other;"),
-    }
-}
 
 /// The sizes and the first bytes of each lane's buffers, a `;` behind each.
 fn told_draws(alloc: Global, trace: &Trace) -> Result<String, AllocError> {
@@ -71,14 +33,14 @@ const COMMANDS: [(u32, u32, &str); 2] = [
     (
         1,
         8,
-        "|alloc 0 64;set 0 0 [22, 22, 22, 22];slice 1 0 2 8;get 1 0 4;send 0 0;recv 2 0;get 2 0 4;release 2;",
+        "|alloc 0 64;set 0 0 16161616;slice 1 0 2 8;get 1 0 4;send 0 0;recv 2 0;get 2 0 4;release 2;|",
     ),
     (
         3,
         47,
-        "|alloc 0 64;set 0 0 [22, 22, 22, 22];slice 1 0 2 8;get 1 0 4;send 0 1;recv 2 2;get 2 0 4;release 2;\
-         |alloc 0 177;set 0 0 [28, 28, 28, 28];slice 1 0 2 8;get 1 0 4;send 0 2;recv 2 0;get 2 0 4;release 2;\
-         |alloc 0 671;set 0 0 [28, 28, 28, 28];slice 1 0 2 8;get 1 0 4;send 0 0;recv 2 1;get 2 0 4;release 2;",
+        "|alloc 0 64;set 0 0 16161616;slice 1 0 2 8;get 1 0 4;send 0 1;recv 2 2;get 2 0 4;release 2;\
+         |alloc 0 177;set 0 0 1c1c1c1c;slice 1 0 2 8;get 1 0 4;send 0 2;recv 2 0;get 2 0 4;release 2;\
+         |alloc 0 671;set 0 0 1c1c1c1c;slice 1 0 2 8;get 1 0 4;send 0 0;recv 2 1;get 2 0 4;release 2;|",
     ),
 ];
 
@@ -87,8 +49,8 @@ fn makes_the_commands_of_a_block(rt: HostRuntime) -> Result<(), Fail> {
     let alloc = rt.alloc();
     for (lanes, commands, want) in COMMANDS {
         let trace = make(alloc, 0, lanes, commands)?;
-        let text = told(alloc, &trace)?;
-        assert_eq!(rt; text.as_str(), want, "at {lanes} {commands}");
+        let text = told_trace(alloc, &trace)?;
+        assert!(rt; text.as_str() == want, "at {lanes} {commands}");
     }
     Ok(())
 }
@@ -108,7 +70,7 @@ fn draws_lane_by_lane(rt: HostRuntime) -> Result<(), Fail> {
     for (start, lanes, commands, want) in DRAWS {
         let trace = make(alloc, start, lanes, commands)?;
         let text = told_draws(alloc, &trace)?;
-        assert_eq!(rt; text.as_str(), want, "at {start} {lanes} {commands}");
+        assert!(rt; text.as_str() == want, "at {start} {lanes} {commands}");
     }
     Ok(())
 }
@@ -119,7 +81,7 @@ fn makes_the_longest_traces(rt: HostRuntime) -> Result<(), Fail> {
     for (lanes, want) in [(1, 65_536), (3, 21_840), (16, 4_096)] {
         let trace = make(alloc, 1, lanes, 65_536)?;
         let counts = trace.lanes.items().iter().map(|lane| lane.items().len());
-        assert_eq!(rt; counts.max(), Some(want), "at {lanes}");
+        assert!(rt; counts.max() == Some(want), "at {lanes}");
     }
     Ok(())
 }

@@ -5,9 +5,9 @@
 pub const COMMANDS: &str = r#"[[]] => ||
 [[],[]] => |||
 [ [ ["touch" , "a"] , [ "touch","b" ] ] ] => |touch 0;touch 1;|
-[[["alloc","a",24],["set","a",0,"68656C6c"],["tryset","a",1,""]]] => |alloc 0 24;set 0 0 68656c6c false;set 0 1  true;|
-[[["get","a",0,5],["tryget","a",4,1],["write","a","ff"],["read","a",2]]] => |get 0 0 5 false;get 0 4 1 true;write 0 ff;read 0 2;|
-[[["slice","s","a",2,8],["rslice","t","s",1,2],["dup","d","a"]]] => |slice 0 1 2 8 false;slice 2 0 1 2 true;dup 3 1;|
+[[["alloc","a",24],["set","a",0,"68656C6c"],["tryset","a",1,""]]] => |alloc 0 24;set 0 0 68656c6c;tryset 0 1 ;|
+[[["get","a",0,5],["tryget","a",4,1],["write","a","ff"],["read","a",2]]] => |get 0 0 5;tryget 0 4 1;write 0 ff;read 0 2;|
+[[["slice","s","a",2,8],["rslice","t","s",1,2],["dup","d","a"]]] => |slice 0 1 2 8;rslice 2 0 1 2;dup 3 1;|
 [[["retain","a"],["release","a"],["refcnt","s"],["touch","d"],["forget","a"]]] => |retain 0;release 0;refcnt 1;touch 2;forget 0;|
 [[["send","a",0],["recv","r",0]]] => |send 0 0;recv 1 0;|
 [[["send","a",1]],[["recv","a",0],["touch","b"]]] => |send 0 1;|recv 0 0;touch 1;|
@@ -25,8 +25,8 @@ pub const COMMANDS: &str = r#"[[]] => ||
 [[["touch","r"],["send","a",0],["recv","r",0]]] => |touch 0;send 1 0;recv 0 0;|
 [[["send","a",0],["recv","r",0],["alloc","r",1]]] => |send 0 0;recv 1 0;alloc 1 1;|
 [[["alloc","a",1],["send","a",1]],[["recv","a",0]]] => |alloc 0 1;send 0 1;|recv 0 0;|
-[[["get","a",0,67108864]]] => |get 0 0 67108864 false;|
-[[["tryget","a",0,67108863]],[["read","b",1]]] => |get 0 0 67108863 true;|read 0 1;|
+[[["get","a",0,67108864]]] => |get 0 0 67108864;|
+[[["tryget","a",0,67108863]],[["read","b",1]]] => |tryget 0 0 67108863;|read 0 1;|
 [[["send","a",1],["recv","x",1]],[["recv","x",0],["send","x",0]]] => |send 0 1;recv 1 1;|recv 0 0;send 0 0;|
 [[["send","a",1],["send","a",1]],[["recv","x",0],["recv","y",0]]] => |send 0 1;send 0 1;|recv 0 0;recv 1 0;|
 "#;

@@ -1,4 +1,4 @@
-//! Texts, and what each is read as. Names are numbers, and a command that tries or retains says so.
+//! Texts, and what each is read as. Names are numbers.
 use crate::rows::{COMMANDS, VERSION_TWO};
 use pool_law::{Command, Options, Trace};
 use std::alloc::{AllocError, Global};
@@ -40,7 +40,8 @@ fn told_options(alloc: Global, options: &Options) -> Result<String, AllocError> 
     Ok(text)
 }
 
-fn told_trace(alloc: Global, trace: &Trace) -> Result<String, AllocError> {
+/// The commands of each lane between `|`, each with a `;` behind it.
+pub(crate) fn told_trace(alloc: Global, trace: &Trace) -> Result<String, AllocError> {
     let mut text = String::from_str(alloc, "|")?;
     for lane in trace.lanes.items() {
         for command in lane.items() {
@@ -54,56 +55,101 @@ fn told_trace(alloc: Global, trace: &Trace) -> Result<String, AllocError> {
 }
 
 fn told_command(alloc: Global, command: &Command) -> Result<String, AllocError> {
+    let (word, numbers) = word_of(command);
+    let mut text = String::from_str(alloc, word)?;
+    for number in numbers {
+        if let Some(number) = number {
+            push_number(alloc, &mut text, number)?;
+        }
+    }
+    if let Some(bytes) = bytes_of(command) {
+        let hex = hex::encode(alloc, bytes)?;
+        text.push_str(" ")?;
+        text.push_str(hex.as_str())?;
+    }
+    for name in names_of(command) {
+        push_number(alloc, &mut text, *name)?;
+    }
+    Ok(text)
+}
+
+fn push_number(alloc: Global, text: &mut String, number: u32) -> Result<(), AllocError> {
+    let number = format!(in alloc; " {number}")?;
+    text.push_str(number.as_str())
+}
+
+/// The word of a command as it stands in a trace, and its numbers.
+fn word_of(command: &Command) -> (&'static str, [Option<u32>; 4]) {
     match command {
-        Command::Alloc { name, size } => format!(in alloc; "alloc {name} {size}"),
+        Command::Alloc { name, size } => ("alloc", two(*name, *size)),
         Command::Set {
             name,
             at,
-            bytes,
             tries,
-        } => {
-            let hex = hex::encode(alloc, bytes.items())?;
-            format!(in alloc; "set {name} {at} {hex} {tries}")
-        }
+            ..
+        } => (tried(*tries, "tryset", "set"), two(*name, *at)),
         Command::Get {
             name,
             at,
             len,
             tries,
-        } => format!(in alloc; "get {name} {at} {len} {tries}"),
-        Command::Write { name, bytes } => {
-            let hex = hex::encode(alloc, bytes.items())?;
-            format!(in alloc; "write {name} {hex}")
-        }
-        Command::Read { name, len } => format!(in alloc; "read {name} {len}"),
+        } => (
+            tried(*tries, "tryget", "get"),
+            [Some(*name), Some(*at), Some(*len), None],
+        ),
+        Command::Write { name, .. } => ("write", one(*name)),
+        Command::Read { name, len } => ("read", two(*name, *len)),
         Command::Slice {
             fresh,
             name,
             at,
             len,
             retained,
-        } => { format!(in alloc; "slice {fresh} {name} {at} {len} {retained}") }
-        Command::Dup { fresh, name } => format!(in alloc; "dup {fresh} {name}"),
-        Command::Retain { name } => format!(in alloc; "retain {name}"),
-        Command::Release { name } => format!(in alloc; "release {name}"),
-        Command::Refcnt { name } => format!(in alloc; "refcnt {name}"),
-        Command::Touch { name } => format!(in alloc; "touch {name}"),
-        Command::Forget { name } => format!(in alloc; "forget {name}"),
-        Command::Send { name, lane } => format!(in alloc; "send {name} {lane}"),
-        Command::Recv { fresh, lane } => format!(in alloc; "recv {fresh} {lane}"),
-        Command::Compose { fresh, names } => told_compose(alloc, *fresh, names.items()),
-        Command::Add { whole, name } => format!(in alloc; "add {whole} {name}"),
-        Command::Capacity { name, size } => format!(in alloc; "capacity {name} {size}"),
+        } => (
+            tried(*retained, "rslice", "slice"),
+            [Some(*fresh), Some(*name), Some(*at), Some(*len)],
+        ),
+        Command::Dup { fresh, name } => ("dup", two(*fresh, *name)),
+        Command::Retain { name } => ("retain", one(*name)),
+        Command::Release { name } => ("release", one(*name)),
+        Command::Refcnt { name } => ("refcnt", one(*name)),
+        Command::Touch { name } => ("touch", one(*name)),
+        Command::Forget { name } => ("forget", one(*name)),
+        Command::Send { name, lane } => ("send", two(*name, *lane)),
+        Command::Recv { fresh, lane } => ("recv", two(*fresh, *lane)),
+        Command::Compose { fresh, .. } => ("compose", one(*fresh)),
+        Command::Add { whole, name } => ("add", two(*whole, *name)),
+        Command::Capacity { name, size } => ("capacity", two(*name, *size)),
     }
 }
 
-fn told_compose(alloc: Global, fresh: u32, names: &[u32]) -> Result<String, AllocError> {
-    let mut words = format!(in alloc; "compose {fresh}")?;
-    for name in names {
-        let word = format!(in alloc; " {name}")?;
-        words.push_str(word.as_str())?;
+fn tried(tries: bool, yes: &'static str, no: &'static str) -> &'static str {
+    if tries { yes } else { no }
+}
+
+fn one(number: u32) -> [Option<u32>; 4] {
+    [Some(number), None, None, None]
+}
+
+fn two(first: u32, second: u32) -> [Option<u32>; 4] {
+    [Some(first), Some(second), None, None]
+}
+
+/// The bytes that a command lays.
+fn bytes_of(command: &Command) -> Option<&[u8]> {
+    match command {
+        Command::Set { bytes, .. } => Some(bytes.items()),
+        Command::Write { bytes, .. } => Some(bytes.items()),
+        _ => None,
     }
-    Ok(words)
+}
+
+/// The buffers of which a composite is made.
+fn names_of(command: &Command) -> &[u32] {
+    match command {
+        Command::Compose { names, .. } => names.items(),
+        _ => &[],
+    }
 }
 
 /// Each line of a table is a text and what it is read as, with ` => ` between them.
@@ -111,17 +157,15 @@ fn check_table(rt: &(impl Abort + AllocGlobal), table: &str) -> Result<(), Fail>
     for row in table.lines() {
         let (text, want) = row.split_once(" => ").expect(rt, "a row has an arrow");
         let found = told(rt.alloc(), text.as_bytes())?;
-        assert_eq!(rt; found.as_str(), want, "at {text}");
+        assert!(rt; found.as_str() == want, "at {text}");
     }
     Ok(())
 }
 
 #[test]
 fn reads_each_command(rt: HostRuntime) -> Result<(), Fail> {
-    check_table(&rt, COMMANDS)
-}
-
-#[test]
-fn reads_version_two(rt: HostRuntime) -> Result<(), Fail> {
-    check_table(&rt, VERSION_TWO)
+    for table in [COMMANDS, VERSION_TWO] {
+        check_table(&rt, table)?;
+    }
+    Ok(())
 }

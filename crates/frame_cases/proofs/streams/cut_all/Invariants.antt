@@ -2,7 +2,7 @@ use Rattle.std.proofs.Common.{◌≡◌, ◌-◌, ◌≤◌, ◌++◌, length, t
 use Rattle.std.specs.List.{flat_map}
 use Rattle.frame_core.specs.Frames.{cuts_of}
 use Rattle.frame_core.specs.Standing.{HasRead}
-use Rattle.frame_core.proofs.tests.cut_all.Given as goal
+use Rattle.frame_cases.proofs.streams.cut_all.Given as goal
 
 abbrev pub invariant-pieces : goal.invariant-pieces
 invariant-pieces l =

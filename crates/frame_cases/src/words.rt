@@ -1,6 +1,6 @@
 //! Words that have a form, and words that have none.
 
-use super::*;
+use frame_words::read_words;
 use std::alloc::{AllocError, Global};
 use std::test::Fail;
 
@@ -33,7 +33,7 @@ fn forms(rt: HostRuntime) -> Result<(), Fail> {
     for (texts, wanted) in cases {
         let words = words(rt.alloc(), texts)?;
         let found = read_words(&words).map(|options| (options.workers, options.block));
-        assert_eq!(rt; found, wanted);
+        assert!(rt; found == wanted);
     }
     Ok(())
 }

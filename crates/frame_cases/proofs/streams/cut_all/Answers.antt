@@ -3,7 +3,7 @@ use Rattle.std.specs.List.{flat_map}
 use Rattle.frame_core.specs.Frames.{cuts_at, cuts_of}
 use Rattle.frame_core.specs.Standing.{HasRead}
 use Rattle.frame_core.proofs.ListLaws.{take-split}
-use Rattle.frame_core.proofs.tests.cut_all.Goals as goal
+use Rattle.frame_cases.proofs.streams.cut_all.Goals as goal
 
 -- the bytes of a piece up to a place, and on to another
 take-range : (before piece : List ℕ) (used place : ℕ) → used ≤ place

@@ -8,7 +8,7 @@ use Rattle.frame_core.specs.declared.frame.Cut.{Cut}
 use Rattle.frame_core.specs.Frames.{cuts_at, cuts_of}
 use Rattle.frame_core.specs.Standing.{Standing, HasRead}
 use Rattle.frame_core.specs.Feeding.{EndsFrame, GoesOn, IsRefused}
-use Rattle.frame_core.proofs.tests.go_on.Goals as goal
+use Rattle.frame_cases.proofs.streams.go_on.Goals as goal
 
 -- the bytes up to a place are gone through, and their cuts are these
 abbrev Fed : Standing → List ℕ → List ℕ → ℕ → List Cut → ℕ × Option Cut → Type 0

@@ -1,11 +1,11 @@
 //! Jobs that go through a queue.
-use crate::{Job, new_queue, pop, push, reunite};
+use job_queue::{Job, new_queue, pop, push, reunite};
 use std::test::Fail;
 
 #[test]
 fn jobs_come_out_in_order(rt: HostRuntime) -> Result<(), Fail> {
     let (queue, mut sender, mut receiver) = new_queue(rt.alloc())?;
-    assert_eq!(rt; pop(&rt, &queue, &mut receiver), None);
+    assert!(rt; pop(&rt, &queue, &mut receiver) == None);
     for number in 0..64u32 {
         let job = Job::Frame { number, slices: 1 };
         assert!(rt; push(&rt, &queue, &mut sender, job));
@@ -13,10 +13,10 @@ fn jobs_come_out_in_order(rt: HostRuntime) -> Result<(), Fail> {
     assert!(rt; !push(&rt, &queue, &mut sender, Job::End));
     for number in 0..64u32 {
         let job = Job::Frame { number, slices: 1 };
-        assert_eq!(rt; pop(&rt, &queue, &mut receiver), Some(job));
+        assert!(rt; pop(&rt, &queue, &mut receiver) == Some(job));
     }
     assert!(rt; push(&rt, &queue, &mut sender, Job::End));
-    assert_eq!(rt; pop(&rt, &queue, &mut receiver), Some(Job::End));
+    assert!(rt; pop(&rt, &queue, &mut receiver) == Some(Job::End));
     reunite(&queue, &mut sender, receiver);
     Ok(())
 }

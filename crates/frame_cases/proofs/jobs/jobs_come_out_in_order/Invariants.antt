@@ -1,5 +1,5 @@
 use Rattle.job_queue.specs.Jobs.{IsReceiver, IsSender}
-use Rattle.job_queue.proofs.tests.jobs_come_out_in_order.Given as goal
+use Rattle.frame_cases.proofs.jobs.jobs_come_out_in_order.Given as goal
 
 abbrev pub invariant-loop-number : goal.invariant-loop-number
 invariant-loop-number g l = IsSender l.queue l.sender × IsReceiver l.queue l.receiver
