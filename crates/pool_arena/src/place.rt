@@ -223,7 +223,7 @@ impl ChunkPlace {
             used: _,
         } = self;
         // Its runs are a chunk.
-        prove!(chunk.free() <= u32::MAX);
+        let _free = chunk.free();
         chunk.into_piece().close(deed);
     }
 
