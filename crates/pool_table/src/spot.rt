@@ -32,6 +32,9 @@ impl<H> Move for Spot<H> {
 
 unsafe impl<H: Send> Send for Spot<H> {}
 
+// A `&` to it shows nothing.
+unsafe impl<H> Sync for Spot<H> {}
+
 impl<H> Spot<H> {
     /// A slot with this value in it.
     #[inline(always)]
