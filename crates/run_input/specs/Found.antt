@@ -3,6 +3,7 @@ use Rattle.std.specs.Prelude.{◌≡◌, Option, Some, None, Result, Ok, Err}
 use Rattle.pool_law.specs.declared.run.Run.{Run}
 use Rattle.pool_law.specs.Limits.{IsShape}
 use Rattle.pool_law.specs.Text.{Text}
+use Rattle.run_text.specs.Derived.{IsDerived}
 use Rattle.run_text.specs.Reads.{Reads}
 use Rattle.text_ends.specs.Ends.{Rose}
 use Rattle.text_ends.specs.Spans.{SourceSpan}
@@ -11,18 +12,29 @@ use Rattle.run_input.specs.declared.fault.InputNo.{InputNo}
 use Rattle.run_input.specs.declared.fault.InputNo.TheVariants.{Form, ReadFault, Memory, Unread}
 use Rattle.run_input.specs.Cases.{Case, case_of}
 
--- a run of the trace and the pool that are asked about, with the text
+-- a run of the trace and the pool that are asked about, which the text determines
+pub record IsDetermined (case : Case) (run : Run) : Type 0 where
+  pub reads : Reads case.0.trace case.0.shape case.1 run
+  pub derived : IsDerived run
+
+-- a run of the trace and the pool that are asked about, with the text: where it determines one, that one
 pub record IsRunOf (case : Case) (run : Run) : Type 0 where
   pub reads : Reads case.0.trace case.0.shape case.1 run
   pub within : IsShape run.shape
+  pub same : (other : Run) → IsDetermined case other → run ≡ other
 
--- a run of what is asked about; or nothing is asked about; or a case is, and a line of its text was refused
+-- the text determines no run of the trace and the pool that are asked about
+abbrev pub IsUndetermined : Case → Type 0
+IsUndetermined case = (run : Run) → IsDetermined case run → ⊥
+
+-- a run of what is asked about; or nothing is asked about; or a case is whose text determines no run, and a
+-- line of that was refused
 abbrev pub IsTold : Result Run InputNo → Option Case → Type 0
 IsTold (Ok run) asked = (case : Case) × ((asked ≡ Some case) × IsRunOf case run)
 IsTold (Err Form) asked = asked ≡ None
 IsTold (Err ReadFault) asked = ⊥
 IsTold (Err Memory) asked = Unit {0}
-IsTold (Err (Unread fault)) asked = (case : Case) × (asked ≡ Some case)
+IsTold (Err (Unread fault)) asked = (case : Case) × ((asked ≡ Some case) × IsUndetermined case)
 
 -- the source failed; or there was no memory; or a text was read, and this is told of what it asks about
 abbrev pub IsFound : Result Run InputNo → SourceSpan → Type 0

@@ -29,7 +29,7 @@ pub enum InputNo {
     ReadFault,
     /// There was no memory.
     Memory,
-    /// A case is asked about, and no run with its text was found. That there is none isn't proved.
+    /// A case is asked about, and its text determines no run. That none has that text isn't proved.
     Unread(Fault),
 }
 

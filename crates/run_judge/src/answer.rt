@@ -25,7 +25,7 @@ pub enum Status {
     Memory = 6,
     /// The run is legal, and neither an order of its notes nor a circle was found; that was written.
     Undecided = 7,
-    /// No run with this text was found: a line can't stand where it stands. This isn't proved.
+    /// The text determines no run: a line can't stand where it stands. That this line can't isn't proved.
     Unread = 8,
 }
 
