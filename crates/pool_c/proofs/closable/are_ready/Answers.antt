@@ -1,7 +1,7 @@
 use Rattle.std.proofs.Common.{refl, arith}
 use Rattle.std.proofs.lemmas.Option.{slice_get_read}
 use Rattle.std.proofs.lemmas.Result.{err_from_is_err_and}
-use Rattle.pool_c.proofs.closing.are_ready.Goals as goal
+use Rattle.pool_c.proofs.closable.are_ready.Goals as goal
 
 pub returns-in_err-may_call : goal.returns-in_err-may_call
 returns-in_err-may_call c =

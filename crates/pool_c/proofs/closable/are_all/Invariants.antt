@@ -1,7 +1,7 @@
 use Rattle.std.proofs.Common.{◌≡◌, ℕ, ◌<◌, ◌≤◌, length, map, Some}
 use Rattle.std.specs.Prelude.{box_value, slice_get}
 use Rattle.pool_c.specs.Holding.{Holding}
-use Rattle.pool_c.proofs.closing.are_all.Given as goal
+use Rattle.pool_c.proofs.closable.are_all.Given as goal
 
 abbrev pub invariant-loop-number : goal.invariant-loop-number
 invariant-loop-number l = record {

@@ -7,7 +7,7 @@ use Rattle.pool_member.specs.Threads.{IsSettled}
 use Rattle.pool_c.specs.Closing.{members_of}
 use Rattle.pool_c.specs.Holding.{Holding}
 use Rattle.pool_c.proofs.Places.{all_of, at_all, of_map, up_to}
-use Rattle.pool_c.proofs.closing.are_settled.Goals as goal
+use Rattle.pool_c.proofs.closable.are_settled.Goals as goal
 use Rattle.pool_law.proofs.ListLemmas.{get-map}
 
 pub returns-then-not-is_nothing : goal.returns-then-not-is_nothing

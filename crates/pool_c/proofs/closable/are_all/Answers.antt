@@ -7,8 +7,8 @@ use Rattle.pool_c.specs.declared.held.Common.{Common}
 use Rattle.pool_c.specs.Holding.{Holding}
 use Rattle.pool_c.proofs.Closed.{have_numbers, their_number}
 use Rattle.pool_c.proofs.Places.{up_to}
-use Rattle.pool_c.proofs.closing.are_all.Goals as goal
-use Rattle.pool_c.proofs.closing.are_all.Goals.{then-deref-name-via-then-deref-name, then-deref-name-via-else-deref-name+then-deref-number}
+use Rattle.pool_c.proofs.closable.are_all.Goals as goal
+use Rattle.pool_c.proofs.closable.are_all.Goals.{then-deref-name-via-then-deref-name, then-deref-name-via-else-deref-name+then-deref-number}
 use Rattle.pool_law.proofs.ListLemmas.{get-map}
 
 pub returns-then-deref-name : goal.returns-then-deref-name
