@@ -8,7 +8,7 @@ use Rattle.frame_hash.specs.declared.worker.Worker.{Worker}
 use Rattle.frame_cut.specs.Openings.{AreHired}
 use Rattle.frame_cut.proofs.LineLaws.{hired_none, hired_more}
 use Rattle.frame_cut.proofs.ListSteps.{taken_off}
-use Rattle.frame_cut.proofs.openings.hire.Goals as goal
+use Rattle.frame_cut.proofs.hiring.hire.Goals as goal
 
 pub loop-number-init : goal.loop-number-init
 loop-number-init c = record {

@@ -1,6 +1,6 @@
 use Rattle.std.proofs.Common.{◌≡◌, ◌≤◌, drop, vec_capacity}
 use Rattle.frame_cut.specs.Openings.{AreHired}
-use Rattle.frame_cut.proofs.openings.hire.Given as goal
+use Rattle.frame_cut.proofs.hiring.hire.Given as goal
 
 abbrev pub invariant-loop-number : goal.invariant-loop-number
 invariant-loop-number l = record {
