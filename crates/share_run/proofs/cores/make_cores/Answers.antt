@@ -5,9 +5,9 @@ use Rattle.shared_pool.specs.declared.seat.PoolSeat.{PoolSeat}
 use Rattle.shared_pool.specs.Seats.{IsPoolSeat}
 use Rattle.shared_composite.specs.declared.cores.Core.{Core}
 use Rattle.share_run.specs.Standing.{AreFresh, IsFilled}
-use Rattle.share_run.proofs.BoardLaws.{StockedTo, core_of, fresh_dropped, fresh_first, fresh_seats, on_err, stocked_more, stocked_seats}
+use Rattle.share_run.proofs.BoardLaws.{CoresTo, core_of, fresh_dropped, fresh_first, fresh_seats, on_err, cores_more, cores_seats}
 use Rattle.share_run.proofs.PartLaws.{get_same}
-use Rattle.share_run.proofs.stock.stock.Goals as goal
+use Rattle.share_run.proofs.cores.make_cores.Goals as goal
 
 pub returns-in_err-cores-clause-err : goal.returns-in_err-cores-clause-err
 returns-in_err-cores-clause-err g c =
@@ -30,7 +30,7 @@ returns-in-None-clause-err g c =
     (subst (λ (ss : List PoolSeat). All (IsPoolSeat pool) ss) (sym c.push_reserved-in-None.ensures.items)
     (All-push (IsPoolSeat pool) c.remove-seat.new.self.items c.fill.new.seat
     (fresh_seats pool (l.lane + 1) c.remove-seat.new.self.items rest) c.fill.ensures.seat))
-    (stocked_seats pool c.args.composites.now l.lane l.cores.items l.invariant.stocked)
+    (cores_seats pool c.args.composites.now l.lane l.cores.items l.invariant.all_cores)
 
 pub loop-lane-preserved : goal.loop-lane-preserved
 loop-lane-preserved g c =
@@ -47,9 +47,9 @@ loop-lane-preserved g c =
           subst (AreFresh pool (l.lane + 1)) (sym r.by_index.2)
           (fresh_dropped pool l.lane l.seats.items inv.fresh);
       left = (let a = inv.left in let b = r.len in omega (arith, a, b));
-      stocked =
-          subst (λ (cs : List Core). StockedTo pool composites (l.lane + 1) cs) (sym e.items)
-          (stocked_more pool composites l.lane l.cores.items c.new.result inv.stocked one);
+      all_cores =
+          subst (λ (cs : List Core). CoresTo pool composites (l.lane + 1) cs) (sym e.items)
+          (cores_more pool composites l.lane l.cores.items c.new.result inv.all_cores one);
       room = (let a = inv.room in let b = e.capacity in omega (arith, a, b));
       capacity = r.capacity ∙ inv.capacity;
       enough = (let a = inv.enough in let b = r.capacity in omega (arith, a, b));

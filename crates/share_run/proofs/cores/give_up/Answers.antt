@@ -5,7 +5,7 @@ use Rattle.shared_pool.specs.declared.seat.PoolSeat.{PoolSeat}
 use Rattle.shared_pool.specs.Seats.{IsPoolSeat}
 use Rattle.shared_composite.specs.declared.cores.Core.{Core}
 use Rattle.share_run.proofs.ListSteps.{all_front, all_last}
-use Rattle.share_run.proofs.stock.give_up.Goals as goal
+use Rattle.share_run.proofs.cores.give_up.Goals as goal
 
 pub loop-core-preserved : goal.loop-core-preserved
 loop-core-preserved c =

@@ -3,7 +3,7 @@ use Rattle.std.specs.Prelude.{All}
 use Rattle.shared_pool.specs.declared.pool.SharedPool.{SharedPool}
 use Rattle.shared_pool.specs.Seats.{IsPoolSeat}
 use Rattle.shared_composite.specs.declared.cores.Core.{Core}
-use Rattle.share_run.proofs.stock.give_up.Given as goal
+use Rattle.share_run.proofs.cores.give_up.Given as goal
 
 abbrev pub invariant-loop-core : goal.invariant-loop-core
 invariant-loop-core l = record {

@@ -4,7 +4,7 @@ ghost use Rattle.std.specs.Prelude.{◌≡◌, ◌≤◌, ◌+◌, [], All, IfOk
 ghost use Rattle.pool_law.specs.Limits.{geometry_of};
 ghost use Rattle.shared_pool.specs.declared.pool.SharedPool.{SharedPool};
 ghost use Rattle.shared_pool.specs.Seats.{IsPoolSeat};
-ghost use Rattle.share_run.specs.Standing.{AreFresh, AreStocked, IsBounded};
+ghost use Rattle.share_run.specs.Standing.{AreFresh, AreCoresOf, IsBounded};
 
 use crate::parts::fill;
 use share_text::Parts;
@@ -16,7 +16,7 @@ use std::sync::Wait;
 
 /// A core for each composite, in order, each with the seat of its number. Err is want of memory;
 /// then all seats are in their list, and may count some roots.
-pub fn stock<W: Wait>(
+pub fn make_cores<W: Wait>(
     rt: &W,
     alloc: Global,
     pool: &SharedPool,
@@ -29,7 +29,7 @@ pub fn stock<W: Wait>(
     requires many { vec_len seats.old ≡ length composites.now }
     requires few { length composites.now ≤ 16 }
     requires parts { All IsBounded composites.now }
-    ensures ok { IfOk result (λ cores. AreStocked pool.now composites.now cores.items
+    ensures ok { IfOk result (λ cores. AreCoresOf pool.now composites.now cores.items
         × (seats.new.items ≡ [])) }
     ensures err { OnErr result (All (IsPoolSeat pool.now) seats.new.items) }
     ensures room { vec_capacity seats.new ≡ vec_capacity seats.old }
