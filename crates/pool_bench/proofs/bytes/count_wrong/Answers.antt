@@ -1,7 +1,7 @@
 use Rattle.std.proofs.Common.{arith}
 use Rattle.seat_work.specs.Hands.{empty_hand}
 use Rattle.seat_work.proofs.Proceeding.{goes_on}
-use Rattle.pool_bench.proofs.work.count_wrong.Goals as goal
+use Rattle.pool_bench.proofs.bytes.count_wrong.Goals as goal
 
 pub returns-clause-goes : goal.returns-clause-goes
 returns-clause-goes g c =

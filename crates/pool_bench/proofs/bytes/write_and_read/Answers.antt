@@ -2,7 +2,7 @@ use Rattle.std.proofs.Common.{arith}
 use Rattle.seat_work.specs.Changes.{no_change}
 use Rattle.seat_work.specs.Hands.{empty_hand}
 use Rattle.seat_work.proofs.Proceeding.{proceeds_on}
-use Rattle.pool_bench.proofs.work.write_and_read.Goals as goal
+use Rattle.pool_bench.proofs.bytes.write_and_read.Goals as goal
 
 pub returns-clause-proceeds : goal.returns-clause-proceeds
 returns-clause-proceeds g c =

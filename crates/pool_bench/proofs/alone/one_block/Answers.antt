@@ -2,7 +2,7 @@ use Rattle.std.proofs.Common.{arith}
 use Rattle.seat_work.specs.Hands.{empty_hand}
 use Rattle.seat_work.proofs.Proceeding.{goes_on}
 use Rattle.pool_bench.specs.Runs.{block_moves, block_turns}
-use Rattle.pool_bench.proofs.work.one_block.Goals as goal
+use Rattle.pool_bench.proofs.alone.one_block.Goals as goal
 
 pub returns-then-byte-eq0 : goal.returns-then-byte-eq0
 returns-then-byte-eq0 g c =
