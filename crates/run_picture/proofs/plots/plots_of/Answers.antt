@@ -1,5 +1,5 @@
 use Rattle.run_picture.proofs.PlotLemmas.{plots-push}
-use Rattle.run_picture.proofs.picture.plots_of.Goals as goal
+use Rattle.run_picture.proofs.plots.plots_of.Goals as goal
 
 pub loop-arena-preserved : goal.loop-arena-preserved
 loop-arena-preserved c =

@@ -1,7 +1,7 @@
 use Rattle.std.proofs.Common.{◌≡◌}
 use Rattle.size_classes.specs.Sizes.{below}
 use Rattle.run_picture.specs.Plotting.{ArePlots, arenas_in}
-use Rattle.run_picture.proofs.picture.plots_of.Given as goal
+use Rattle.run_picture.proofs.plots.plots_of.Given as goal
 
 abbrev pub invariant-loop-arena : goal.invariant-loop-arena
 invariant-loop-arena l = record {
