@@ -6,6 +6,7 @@ mod acts;
 mod axis;
 mod blocks;
 mod chart;
+mod finding;
 mod frame;
 mod history;
 mod lanes;
