@@ -8,13 +8,13 @@ use Rattle.nest_run.specs.declared.calls.Call.{Call}
 use Rattle.nest_run.specs.declared.calls.Input.{Input}
 use Rattle.nest_run.specs.declared.play.Played.{Played}
 use Rattle.nest_run.specs.declared.replies.Reply.{Reply}
-use Rattle.nest_run.specs.declared.views.Play.{Play}
+use Rattle.nest_run.specs.declared.views.Playing.{Playing}
 use Rattle.nest_run.specs.Inputs.{call_limit}
 use Rattle.nest_run.specs.Plays.{Stage, first_stage, stage_after, replies_from}
 use Rattle.nest_run.specs.Standing.{log_of, IsWhole, stage_of, Stands, IsPlayed, HasGone, HasAnswered, IsBorn, HasPlayed}
 
 -- nothing was played yet
-pub gone_first : (pool : SharedPool) (calls : List Call) (p : Play) → Stands pool (length calls) p
+pub gone_first : (pool : SharedPool) (calls : List Call) (p : Playing) → Stands pool (length calls) p
     → HasGone pool calls 0 p [] p
 gone_first pool calls p stands = record {
   stands = subst (λ (n : ℕ). Stands pool n p) (omega arith) stands;
@@ -30,7 +30,8 @@ rest_at calls at call lt is =
     ∙ (λ i. sym is i ∷ drop (sym (add-one at) i) calls)
 
 -- one call more
-pub gone_on : (pool : SharedPool) (calls : List Call) (at : ℕ) (old mid new : Play) (answers : List Reply) (call : Call)
+pub gone_on : (pool : SharedPool) (calls : List Call) (at : ℕ) (old mid new : Playing) (answers : List Reply)
+    (call : Call)
     (reply : Reply) → at < length calls → call ≡ get_or calls at call → HasGone pool calls at old answers mid
     → IsPlayed pool call mid reply new → HasGone pool calls (at + 1) old (answers ++ reply ∷ []) new
 gone_on pool calls at old mid new answers call reply lt is gone played = record {
@@ -58,7 +59,7 @@ gone_on pool calls at old mid new answers call reply lt is gone played = record 
 }
 
 -- all calls
-pub gone_last : (pool : SharedPool) (calls : List Call) (at : ℕ) (old new : Play) (answers : List Reply)
+pub gone_last : (pool : SharedPool) (calls : List Call) (at : ℕ) (old new : Playing) (answers : List Reply)
     → length calls ≤ at → HasGone pool calls at old answers new → HasAnswered pool calls old answers new
 gone_last pool calls at old new answers le gone = record {
   stands = subst (λ (n : ℕ). Stands pool n new) (omega (arith, le)) gone.stands;
@@ -75,7 +76,7 @@ gone_last pool calls at old new answers le gone = record {
 }
 
 -- what was played of an input
-pub has_played : (pool : SharedPool) (input : Input) (first last : Play) (played : Played)
+pub has_played : (pool : SharedPool) (input : Input) (first last : Playing) (played : Played)
     → IsBorn pool input.capacity first.root first.seat → first.nest ≡ new_nest first.root call_limit
     → HasAnswered pool input.calls first played.replies last → played.live ≡ live_views last.nest
     → HasPlayed pool input played last.seat

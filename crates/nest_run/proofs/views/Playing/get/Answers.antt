@@ -3,13 +3,13 @@ use Rattle.nest_run.specs.declared.replies.Reply.TheVariants.{Read}
 use Rattle.counted_view.specs.Nests.{held_view}
 use Rattle.nest_run.specs.declared.calls.Call.TheVariants.{Get}
 use Rattle.nest_run.specs.declared.replies.Reply.{Reply}
-use Rattle.nest_run.specs.declared.views.Play.{Play}
+use Rattle.nest_run.specs.declared.views.Playing.{Playing}
 use Rattle.nest_run.specs.Standing.{IsPlayed}
 use Rattle.nest_run.proofs.AccessLaws.{may_access, may_work, get_played}
 use Rattle.nest_run.proofs.RefusalLaws.{get_refused}
 use Rattle.nest_run.proofs.StepLaws.{range_not_full}
 use Rattle.text_ends.proofs.Bytes.{front_copied}
-use Rattle.nest_run.proofs.views.Play.get.Goals as goal
+use Rattle.nest_run.proofs.views.Playing.get.Goals as goal
 
 pub refused-requires : goal.refused-requires
 refused-requires g c =
@@ -23,8 +23,8 @@ get-requires-clause-counts g c = may_access c.args.pool.now c.args.self.now c.re
 
 pub returns-in_ok-bytes-in-Ok-clause-ok : goal.returns-in_ok-bytes-in-Ok-clause-ok
 returns-in_ok-bytes-in-Ok-clause-ok g c =
-    let old : Play = c.args.self.now in let e = c.in-Ok.ensures in let pool = c.args.pool.now in
-    let new : Play = record { seat = c.get.new.seat; nest = old.nest; root = old.root } in
+    let old : Playing = c.args.self.now in let e = c.in-Ok.ensures in let pool = c.args.pool.now in
+    let new : Playing = record { seat = c.get.new.seat; nest = old.nest; root = old.root } in
     let long = c.get.ensures.len ∙ c.as_mut_slice.ensures.len ∙ c.in_ok-bytes-in-Ok.ensures.len in
     subst (λ (xs : List ℕ). IsPlayed pool (Get c.args.of c.args.at c.args.len) old (Read xs) new)
     (sym (c.of.ensures ∙ front_copied c.get.new.out _ _ (c.get.ensures.len ∙ c.as_mut_slice.ensures.len)))
@@ -33,6 +33,6 @@ returns-in_ok-bytes-in-Ok-clause-ok g c =
 
 pub returns-in-Err-clause-ok : goal.returns-in-Err-clause-ok
 returns-in-Err-clause-ok g c =
-    let old : Play = c.args.self.now in let pool = c.args.pool.now in
+    let old : Playing = c.args.self.now in let pool = c.args.pool.now in
     subst (λ (r : Reply). IsPlayed pool (Get c.args.of c.args.at c.args.len) old r old) (sym c.refused.ensures)
     (get_refused pool old old c.args.of c.args.at c.args.len c.in-Err.no refl c.in-Err.ensures.answers)

@@ -4,30 +4,30 @@ use Rattle.pool_table.specs.declared.roots.EndToken.{EndToken}
 use Rattle.counted_view.specs.NestSeats.{IsReleasedIf}
 use Rattle.nest_run.specs.declared.calls.Call.TheVariants.{Release}
 use Rattle.nest_run.specs.declared.replies.Reply.{Reply}
-use Rattle.nest_run.specs.declared.views.Play.{Play}
+use Rattle.nest_run.specs.declared.views.Playing.{Playing}
 use Rattle.nest_run.specs.Standing.{IsPlayed}
 use Rattle.counted_view.specs.Nests.{held_view, live_slices, root_counts}
 use Rattle.nest_run.proofs.PlayLaws.{kept_played}
 use Rattle.nest_run.proofs.EndLaws.{end_works, ended_played}
 use Rattle.nest_run.proofs.RefusalLaws.{release_refused}
 use Rattle.nest_run.proofs.StepLaws.{release_not_full}
-use Rattle.nest_run.proofs.views.Play.release.Goals as goal
+use Rattle.nest_run.proofs.views.Playing.release.Goals as goal
 
 pub refused-requires : goal.refused-requires
 refused-requires g c = release_not_full (held_view c.args.self.now.nest c.args.of) c.in-Err.no c.in-Err.ensures.answers
 
 pub returns-in-Err : goal.returns-in-Err
 returns-in-Err g c =
-    let old : Play = c.args.self.now in let e = c.in-Err.ensures in let pool = c.args.pool.now in
-    let new : Play = record { seat = c.release.new.seat; nest = c.release.new.self; root = old.root } in
+    let old : Playing = c.args.self.now in let e = c.in-Err.ensures in let pool = c.args.pool.now in
+    let new : Playing = record { seat = c.release.new.seat; nest = c.release.new.self; root = old.root } in
     subst (λ (r : Reply). IsPlayed pool (Release c.args.of) old r new) (sym c.refused.ensures)
     (release_refused pool old new c.args.of c.in-Err.no
     (λ i. record { seat = e.unchanged.1 i; nest = e.unchanged.0 i; root = old.root }) e.answers)
 
 pub returns-in-None : goal.returns-in-None
 returns-in-None g c =
-    let old : Play = c.args.self.now in let e = c.in-Ok.ensures in let pool = c.args.pool.now in
-    let new : Play = record { seat = c.release.new.seat; nest = c.release.new.self; root = old.root } in
+    let old : Playing = c.args.self.now in let e = c.in-Ok.ensures in let pool = c.args.pool.now in
+    let new : Playing = record { seat = c.release.new.seat; nest = c.release.new.self; root = old.root } in
     let lost = nat_lt (root_counts new.nest) (root_counts old.nest) in
     let many : c.in-Ok.field-0.ended + live_slices new.nest ≡ live_slices old.nest = e.ended in
     let tells : c.in-Ok.field-0.token ≡ None = (cc (c.in-Ok.token-is, c.in-None.is)) in
@@ -38,8 +38,8 @@ returns-in-None g c =
 
 pub end-requires-clause-works : goal.end-requires-clause-works
 end-requires-clause-works g c =
-    let old : Play = c.args.self.now in let e = c.in-Ok.ensures in let pool = c.args.pool.now in
-    let mid : Play = record { seat = c.release.new.seat; nest = c.release.new.self; root = old.root } in
+    let old : Playing = c.args.self.now in let e = c.in-Ok.ensures in let pool = c.args.pool.now in
+    let mid : Playing = record { seat = c.release.new.seat; nest = c.release.new.self; root = old.root } in
     let lost = nat_lt (root_counts mid.nest) (root_counts old.nest) in
     let many : c.in-Ok.field-0.ended + live_slices mid.nest ≡ live_slices old.nest = e.ended in
     let tells : c.in-Ok.field-0.token ≡ Some c.in-Some.token = (cc (c.in-Ok.token-is, c.in-Some.is)) in
@@ -49,9 +49,9 @@ end-requires-clause-works g c =
 
 pub returns-in-Some : goal.returns-in-Some
 returns-in-Some g c =
-    let old : Play = c.args.self.now in let e = c.in-Ok.ensures in let pool = c.args.pool.now in
-    let mid : Play = record { seat = c.release.new.seat; nest = c.release.new.self; root = old.root } in
-    let new : Play = record { seat = c.end.new.seat; nest = c.release.new.self; root = old.root } in
+    let old : Playing = c.args.self.now in let e = c.in-Ok.ensures in let pool = c.args.pool.now in
+    let mid : Playing = record { seat = c.release.new.seat; nest = c.release.new.self; root = old.root } in
+    let new : Playing = record { seat = c.end.new.seat; nest = c.release.new.self; root = old.root } in
     let lost = nat_lt (root_counts mid.nest) (root_counts old.nest) in
     let many : c.in-Ok.field-0.ended + live_slices mid.nest ≡ live_slices old.nest = e.ended in
     let tells : c.in-Ok.field-0.token ≡ Some c.in-Some.token = (cc (c.in-Ok.token-is, c.in-Some.is)) in
