@@ -1,7 +1,7 @@
 use Rattle.std.proofs.Common.{◌<◌, ◌≤◌, ℕ, length, get_or}
 use Rattle.pool_law.specs.Logs.{of_lane}
 use Rattle.log_order.specs.Spots.{notes_in}
-use Rattle.log_order.proofs.playing.Play.is_over.Given as goal
+use Rattle.log_order.proofs.playing.Playing.is_over.Given as goal
 
 abbrev pub invariant-loop-lane : goal.invariant-loop-lane
 invariant-loop-lane l =

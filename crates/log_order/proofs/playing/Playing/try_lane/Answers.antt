@@ -2,11 +2,11 @@ use Rattle.std.proofs.Common.{rules, ◌<◌, ◌+◌, ◌^◌, length, refl, sy
 use Rattle.std.specs.Vec.{with_item}
 use Rattle.std.proofs.lemmas.Option.{slice_get_read, get_or_from_slice_get}
 use Rattle.log_order.specs.Spots.{notes_in}
-use Rattle.log_order.specs.declared.playing.Play.{Play}
+use Rattle.log_order.specs.declared.playing.Playing.{Playing}
 use Rattle.log_order.specs.declared.spots.Spot.{Spot}
 use Rattle.log_order.proofs.SpotLemmas.{as-many}
 use Rattle.log_order.proofs.PlayLemmas.{held-unfit, lane-moved, tally-few}
-use Rattle.log_order.proofs.playing.Play.try_lane.Goals as goal
+use Rattle.log_order.proofs.playing.Playing.try_lane.Goals as goal
 
 pub fits-requires : goal.fits-requires
 fits-requires c key =
@@ -48,7 +48,7 @@ returns c =
     let old = c.args.self.now in
     let low : c.args.lane < length old.next.items =
     omega (arith, c.requires.lane, c.requires.so_far.played.lanes, as-many c.args.logs.now) in
-    let new : Play = record {
+    let new : Playing = record {
       next = with_item old.next c.args.lane (c.index_mut.result.now + 1);
       tally = c.pass.new.self;
       order = c.push.new.self;

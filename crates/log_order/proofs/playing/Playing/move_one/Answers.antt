@@ -4,7 +4,7 @@ use Rattle.log_order.specs.Spots.{notes_in}
 use Rattle.log_order.specs.Playing.{IsHeld, MovesOn}
 use Rattle.log_order.specs.declared.playing.Eager.TheVariants.{Any}
 use Rattle.log_order.proofs.MoveLemmas.{stays-on, held-stays}
-use Rattle.log_order.proofs.playing.Play.move_one.Goals as goal
+use Rattle.log_order.proofs.playing.Playing.move_one.Goals as goal
 
 pub loop-lane-preserved : goal.loop-lane-preserved
 loop-lane-preserved c =

@@ -2,7 +2,7 @@ use Rattle.std.proofs.Common.{◌<◌, length, refl, sym, ap, ◌∙◌, arith}
 use Rattle.std.specs.Prelude.{slice_get}
 use Rattle.std.proofs.lemmas.Option.{slice_get_read, slice_get_within}
 use Rattle.log_order.proofs.WaitLemmas.{waits}
-use Rattle.log_order.proofs.playing.Play.must_wait.Goals as goal
+use Rattle.log_order.proofs.playing.Playing.must_wait.Goals as goal
 
 pub first_left-left-requires : goal.first_left-left-requires
 first_left-left-requires c k first at =

@@ -1,6 +1,6 @@
 use Rattle.log_order.specs.Spots.{notes_in}
 use Rattle.log_order.specs.Playing.{IsSoFar, left_in}
-use Rattle.log_order.proofs.playing.Play.play_on.Given as goal
+use Rattle.log_order.proofs.playing.Playing.play_on.Given as goal
 
 abbrev pub invariant-loop : goal.invariant-loop
 invariant-loop l = IsSoFar (notes_in l.logs) l.self

@@ -2,7 +2,7 @@ use Rattle.std.proofs.Common.{◌≡◌, ◌<◌, ℕ, false}
 use Rattle.log_order.specs.Spots.{notes_in}
 use Rattle.log_order.specs.Playing.{IsHeld, MovesOn}
 use Rattle.log_order.specs.declared.playing.Eager.TheVariants.{Any}
-use Rattle.log_order.proofs.playing.Play.move_one.Given as goal
+use Rattle.log_order.proofs.playing.Playing.move_one.Given as goal
 
 abbrev pub invariant-loop-lane : goal.invariant-loop-lane
 invariant-loop-lane l =
