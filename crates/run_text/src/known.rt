@@ -181,6 +181,7 @@ impl Known {
         self.learn_begun(begin_told(told))
     }
 
+    // A birth is known, where a line tells one.
     fn learn_birth(&mut self, born: Option<RootId>) -> Result<(), AllocError>
         ensures births { (key : ℕ × ℕ) → OnOk result (hash.get same_key self.new.births key
             ≡ option_or (keyed root_key key born) (hash.get same_key self.old.births key)) }
@@ -192,6 +193,7 @@ impl Known {
         Ok(())
     }
 
+    // A use that begins is known, where a line tells one.
     fn learn_begun(&mut self, begun: Option<(u32, u64, RegionId)>) -> Result<(), AllocError>
         ensures uses { (key : ℕ × ℕ) → OnOk result (hash.get same_key self.new.uses key
             ≡ option_or (option_map (λ b. b.2.uses) (keyed (λ b. taking_key b.2) key begun))

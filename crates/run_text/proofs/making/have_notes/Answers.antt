@@ -1,6 +1,6 @@
 use Rattle.std.proofs.Common.{◌≡◌, length, rules}
 use Rattle.run_text.proofs.MakeLemmas.{not_empty}
-use Rattle.run_text.proofs.making.are_some.Goals as goal
+use Rattle.run_text.proofs.making.have_notes.Goals as goal
 
 pub returns-then-is_empty : goal.returns-then-is_empty
 returns-then-is_empty c all =
