@@ -4,7 +4,7 @@ use Rattle.object_steps.specs.Behind.{dids_behind}
 use Rattle.run_check.specs.Gathering.{left_of}
 use Rattle.run_check.specs.Merging.{dones_in}
 use Rattle.run_check.proofs.ObjectHistoryLemmas.{stops-at, object_history-broken, object_history-is}
-use Rattle.run_check.proofs.histories.object_history_of.Goals as goal
+use Rattle.run_check.proofs.histories.object.object_history_of.Goals as goal
 
 pub returns-in-Err : goal.returns-in-Err
 returns-in-Err c logs spots =

@@ -1,5 +1,5 @@
 use Rattle.run_check.proofs.ObjectHistoryLemmas.{mail-object_history}
-use Rattle.run_check.proofs.histories.object_history_of_mail.Goals as goal
+use Rattle.run_check.proofs.histories.object.object_history_of_mail.Goals as goal
 
 pub returns-in-Some : goal.returns-in-Some
 returns-in-Some c shape logs spots = rw c.in-Some.is at (c.in_ok-number.ensures shape logs spots)
