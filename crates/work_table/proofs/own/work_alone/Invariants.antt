@@ -1,4 +1,4 @@
-use Rattle.work_table.proofs.worker.work_alone.Given as goal
+use Rattle.work_table.proofs.own.work_alone.Given as goal
 
 abbrev pub invariant-loop : goal.invariant-loop
 invariant-loop g l =
