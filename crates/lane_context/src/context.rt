@@ -19,7 +19,7 @@ use crate::names::Names;
 use crate::work::Consolidation;
 use byte_view::View;
 use lane_stages::{
-    Allotting, Copying, Crossing, Draining, Ending, Growing, OwnCounts, Releasing, write,
+    Allotting, Copying, Crossing, Draining, Ending, Growing, OwnCounts, Releasing, write_note,
 };
 use leak_records::Sampler;
 use pool_law::{Answered, Command, Held, Note, Part, Reply, Shape};
@@ -152,7 +152,7 @@ impl Context {
         requires { length self.old.notes.items < vec_capacity self.old.notes }
         ensures { HasNoted self.old self.new (note ∷ []) }
     {
-        write(&mut self.notes, note);
+        write_note(&mut self.notes, note);
     }
 
     // Answers the command that is under way.

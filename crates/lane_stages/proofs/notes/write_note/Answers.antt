@@ -1,5 +1,5 @@
 use Rattle.std.proofs.Common.{arith}
-use Rattle.lane_stages.proofs.notes.write.Goals as goal
+use Rattle.lane_stages.proofs.notes.write_note.Goals as goal
 
 pub push_reserved-requires : goal.push_reserved-requires
 push_reserved-requires c = let a = c.args.log.now.ok.0 in let b = c.requires in omega (arith, a, b)

@@ -7,7 +7,7 @@ use Rattle.lane_stages.specs.declared.growing.Growing.TheVariants.{Give}
 use Rattle.lane_stages.proofs.GrowEnds.{given_back}
 use Rattle.lane_stages.proofs.GrowSteps.{grow_held}
 use Rattle.lane_stages.proofs.NextNotes.{then_begins, given_begins}
-use Rattle.lane_stages.proofs.growing.give_back.Goals as goal
+use Rattle.lane_stages.proofs.leftover.give_back.Goals as goal
 
 pub give-requires-clause-region : goal.give-requires-clause-region
 give-requires-clause-region c =
@@ -18,8 +18,8 @@ pub returns-in-Did : goal.returns-in-Did
 returns-in-Did c =
     let want = c.args.want in let did = c.in-Did in
     given_back c.args.pool.now c.args.seat.now c.give.new.seat want.root want.size want.class did.ensures.seat
-    did.ensures.same c.args.capacity c.args.region c.requires.may did.number c.at.result c.args.log.now
-    c.write.new.log c.write.ensures did.ensures.did c.at.ensures
+    did.ensures.same c.args.capacity c.args.region c.requires.may did.number c.note_at.result c.args.log.now
+    c.write_note.new.log c.write_note.ensures did.ensures.did c.note_at.ensures
 
 pub returns-in-Held : goal.returns-in-Held
 returns-in-Held c =

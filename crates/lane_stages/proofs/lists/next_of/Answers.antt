@@ -1,6 +1,6 @@
 use Rattle.std.proofs.Common.{sym, ◌∙◌}
 use Rattle.lane_stages.proofs.VecLaws.{first-is, none-in, some-in}
-use Rattle.lane_stages.proofs.crossing.next_of.Goals as goal
+use Rattle.lane_stages.proofs.lists.next_of.Goals as goal
 
 pub returns-then-is_empty : goal.returns-then-is_empty
 returns-then-is_empty g c = none-in c.args.left (sym c.is_empty.ensures ∙ c.if-is_empty.true)

@@ -11,7 +11,7 @@ use Rattle.lane_stages.specs.Growings.{HasGrown}
 use Rattle.lane_stages.specs.declared.growing.Growing.TheVariants as stage
 use Rattle.lane_stages.specs.declared.stage_step.StageStep.TheVariants.{More}
 use Rattle.lane_stages.proofs.GrowEnds.{kept_there, came_back, away_busy}
-use Rattle.lane_stages.proofs.growing.put_away.Goals as goal
+use Rattle.lane_stages.proofs.leftover.put_away.Goals as goal
 
 pub put_cached-requires-clause-region : goal.put_cached-requires-clause-region
 put_cached-requires-clause-region c =
@@ -25,14 +25,15 @@ returns-in-Did-default-Kept c =
     let noted = subst (λ (x : Put). IsNoted pool old new (Cache id.owner id.class) did.number (plain (was_put id x)))
     did.field-1-is did.ensures.did in
     kept_there pool old new want.root want.size want.class did.ensures.seat did.ensures.same c.args.capacity region
-    c.requires.may did.number c.at.result c.args.log.now c.write.new.log c.write.ensures noted c.at.ensures
+    c.requires.may did.number c.note_at.result c.args.log.now c.write_note.new.log c.write_note.ensures noted
+      c.note_at.ensures
 
 pub returns-in-Did-default-Back : goal.returns-in-Did-default-Back
 returns-in-Did-default-Back c =
     let pool = c.args.pool.now in let old = c.args.seat.now in let new = c.put_cached.new.seat in let did =
     c.in-Did-default-Back in let want = c.args.want in let region = c.args.region in let id = region.id in
-    let capacity = c.args.capacity in let note = c.at-in-Did-default-Back in let wrote =
-    c.write-in-Did-default-Back in
+    let capacity = c.args.capacity in let note = c.note_at-in-Did-default-Back in let wrote =
+    c.write_note-in-Did-default-Back in
     let noted = subst (λ (x : Put). IsNoted pool old new (Cache id.owner id.class) did.number
     (plain (was_put id x))) did.field-1-is did.ensures.did in
     let back = subst (λ (x : Put). IfBack x (λ r. r ≡ region)) did.field-1-is did.ensures.back in
@@ -45,7 +46,7 @@ pub returns-in-Held : goal.returns-in-Held
 returns-in-Held c =
     let pool = c.args.pool.now in let old = c.args.seat.now in let new = c.put_cached.new.seat in let held =
     c.in-Held in let want = c.args.want in let region = c.args.region in let capacity = c.args.capacity in
-    let wrote = c.write-in-Held in
+    let wrote = c.write_note-in-Held in
     subst (λ (r : Region). HasGrown pool old new c.args.log.now wrote.new.log want.root want.size want.class
     (stage.Put capacity region) (More (stage.Give capacity r))) (sym held.ensures.held.0)
     (away_busy pool old new want.root want.size want.class held.ensures.seat held.ensures.same capacity region
