@@ -14,6 +14,7 @@ mod names;
 mod passing;
 mod regrowing;
 mod sweeping;
+mod turns;
 mod work;
 mod working;
 
