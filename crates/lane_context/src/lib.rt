@@ -8,6 +8,7 @@ mod accessing;
 mod allocating;
 mod bound;
 mod composed;
+mod consolidating;
 mod context;
 mod counting;
 mod names;
