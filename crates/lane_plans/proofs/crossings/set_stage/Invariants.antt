@@ -3,7 +3,7 @@ use Rattle.std.specs.Prelude.{All, vec_capacity}
 use Rattle.pool_law.specs.Composites.{size_of}
 use Rattle.lane_stages.specs.Crossings.{bytes_of, parts_of}
 use Rattle.lane_plans.specs.Plans.{IsSized}
-use Rattle.lane_plans.proofs.planning.set_stage.Given as goal
+use Rattle.lane_plans.proofs.crossings.set_stage.Given as goal
 
 abbrev pub invariant-loop-part : goal.invariant-loop-part
 invariant-loop-part l =

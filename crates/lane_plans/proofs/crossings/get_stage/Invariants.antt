@@ -2,7 +2,7 @@ use Rattle.std.proofs.Common.{◌≡◌, ◌≤◌, length, take}
 use Rattle.std.specs.Prelude.{All, vec_capacity}
 use Rattle.lane_stages.specs.Crossings.{parts_of}
 use Rattle.lane_plans.specs.Plans.{IsSized}
-use Rattle.lane_plans.proofs.planning.get_stage.Given as goal
+use Rattle.lane_plans.proofs.crossings.get_stage.Given as goal
 
 abbrev pub invariant-loop-part : goal.invariant-loop-part
 invariant-loop-part l =

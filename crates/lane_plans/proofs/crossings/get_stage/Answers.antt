@@ -4,7 +4,7 @@ use Rattle.pool_law.specs.declared.id.Part.{Part}
 use Rattle.pool_law.specs.Composites.{ranges}
 use Rattle.lane_stages.specs.Crossings.{parts_of}
 use Rattle.lane_plans.proofs.PlanParts.{is_got}
-use Rattle.lane_plans.proofs.planning.get_stage.Goals as goal
+use Rattle.lane_plans.proofs.crossings.get_stage.Goals as goal
 
 pub returns : goal.returns
 returns c =

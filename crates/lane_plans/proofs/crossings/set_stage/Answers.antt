@@ -4,7 +4,7 @@ use Rattle.pool_law.specs.declared.id.Part.{Part}
 use Rattle.pool_law.specs.Composites.{ranges, size_of}
 use Rattle.lane_stages.specs.declared.crossing.Stretch.{Stretch}
 use Rattle.lane_plans.proofs.PlanParts.{bytes_more, ends_within, is_set, no_part, parts_more, size_within, sized_more}
-use Rattle.lane_plans.proofs.planning.set_stage.Goals as goal
+use Rattle.lane_plans.proofs.crossings.set_stage.Goals as goal
 
 pub overflow_add-behind : goal.overflow_add-behind
 overflow_add-behind c =
