@@ -12,7 +12,7 @@ use Rattle.pool_table.specs.declared.views.SeatView.{SeatView}
 use Rattle.shared_pool.specs.SeatViews.{view_of}
 use Rattle.seat_work.specs.Readings.{NotesOn}
 use Rattle.seat_work.proofs.Handles.{handle_noted, own_handle}
-use Rattle.seat_work.proofs.allocation.pop_handle.Goals as goal
+use Rattle.seat_work.proofs.popping.pop_handle.Goals as goal
 
 pub returns-in-Did-clause-proceeds : goal.returns-in-Did-clause-proceeds
 returns-in-Did-clause-proceeds g c =

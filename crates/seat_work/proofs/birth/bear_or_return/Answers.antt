@@ -4,7 +4,7 @@ use Rattle.seat_work.specs.Changes.{no_change, once_more}
 use Rattle.seat_work.specs.Hands.{empty_hand}
 use Rattle.seat_work.proofs.Later.{later_none, later_on}
 use Rattle.seat_work.proofs.Proceeding.{proceeds_on, proceeds_more}
-use Rattle.seat_work.proofs.allocation.bear_or_return.Goals as goal
+use Rattle.seat_work.proofs.birth.bear_or_return.Goals as goal
 
 pub returns-in-Ok-clause-proceeds : goal.returns-in-Ok-clause-proceeds
 returns-in-Ok-clause-proceeds g c =
