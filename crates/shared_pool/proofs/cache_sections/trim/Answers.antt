@@ -5,7 +5,7 @@ use Rattle.region_cache.specs.Queues.{Queue, Makes}
 use Rattle.region_cache.specs.Standing.{IsRegionOf}
 use Rattle.shared_pool.specs.Standing.{HomeStands}
 use Rattle.shared_pool.proofs.CacheHomes.{Lens, cache_more}
-use Rattle.shared_pool.proofs.caches.trim.Goals as goal
+use Rattle.shared_pool.proofs.cache_sections.trim.Goals as goal
 
 pub returns-clause-stands : goal.returns-clause-stands
 returns-clause-stands c measures setting h n is at =

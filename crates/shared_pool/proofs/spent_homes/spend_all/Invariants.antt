@@ -1,5 +1,5 @@
 use Rattle.std.specs.Prelude.{⊤}
-use Rattle.shared_pool.proofs.opening.spend_all.Given as goal
+use Rattle.shared_pool.proofs.spent_homes.spend_all.Given as goal
 
 abbrev pub invariant-loop-home : goal.invariant-loop-home
 invariant-loop-home l = ⊤

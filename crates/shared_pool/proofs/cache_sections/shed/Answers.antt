@@ -7,7 +7,7 @@ use Rattle.region_cache.specs.Standing.{IsRegionOf}
 use Rattle.region_cache.proofs.StandingLaws.{in_place_front, in_place_rest}
 use Rattle.shared_pool.specs.Standing.{HomeStands, HasClassLength}
 use Rattle.shared_pool.proofs.CacheHomes.{Lens, cache_more}
-use Rattle.shared_pool.proofs.caches.shed.Goals as goal
+use Rattle.shared_pool.proofs.cache_sections.shed.Goals as goal
 
 pub returns-clause-stands : goal.returns-clause-stands
 returns-clause-stands c measures setting h n is at =

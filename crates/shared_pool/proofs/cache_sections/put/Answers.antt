@@ -8,7 +8,7 @@ use Rattle.region_cache.specs.Standing.{IsRegionOf}
 use Rattle.region_cache.proofs.StandingLaws.{in_place_more}
 use Rattle.shared_pool.specs.Standing.{HomeStands, HasClassLength}
 use Rattle.shared_pool.proofs.CacheHomes.{Lens, cache_more}
-use Rattle.shared_pool.proofs.caches.put.Goals as goal
+use Rattle.shared_pool.proofs.cache_sections.put.Goals as goal
 
 pub returns-in-Ok-clause-stands : goal.returns-in-Ok-clause-stands
 returns-in-Ok-clause-stands c measures setting h n is here len at =

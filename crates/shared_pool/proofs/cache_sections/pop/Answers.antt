@@ -12,7 +12,7 @@ use Rattle.shared_pool.specs.CacheAnswers.{WasInPlace}
 use Rattle.shared_pool.specs.Notes.{hit}
 use Rattle.shared_pool.specs.Standing.{HomeStands, HasClassLength}
 use Rattle.shared_pool.proofs.CacheHomes.{Lens, cache_more}
-use Rattle.shared_pool.proofs.caches.pop.Goals as goal
+use Rattle.shared_pool.proofs.cache_sections.pop.Goals as goal
 
 pub returns-clause-stands : goal.returns-clause-stands
 returns-clause-stands c measures setting h n is at =
