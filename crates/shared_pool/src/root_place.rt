@@ -182,7 +182,7 @@ impl RootPlace {
 
     /// Calls `f` once with bytes of the root, from an offset on.
     #[inline]
-    pub(crate) fn with_bytes<R, F: FnOnce(&[u8]) -> R>(
+    pub(crate) fn show<R, F: FnOnce(&[u8]) -> R>(
         &mut self,
         lane: u32,
         offset: u32,

@@ -5,7 +5,7 @@ use Rattle.shared_pool.specs.declared.root_place.Held.{Held}
 use Rattle.shared_pool.specs.PlaceViews.{root_seen}
 use Rattle.shared_pool.specs.PlaceSteps.{accessed}
 use Rattle.shared_pool.proofs.PlaceLaws.{is_got, there-length, range_in, fits_in}
-use Rattle.shared_pool.proofs.root_place.RootPlace.with_bytes.Goals as goal
+use Rattle.shared_pool.proofs.root_place.RootPlace.show.Goals as goal
 
 pub returns-clause-len : goal.returns-clause-len
 returns-clause-len g c =
