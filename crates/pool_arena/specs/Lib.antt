@@ -5,4 +5,3 @@ pub mod Stocks
 pub mod Held
 pub mod Standing
 pub mod Closing
-pub mod Trials
