@@ -1,6 +1,6 @@
 pub mod ArenaStates
 pub mod Places
-pub mod Fronts
+pub mod SubpageLists
 pub mod Stocks
 pub mod Held
 pub mod Standing

@@ -22,17 +22,17 @@ pub(crate) struct SubpageList {
 }
 
 impl Model for SubpageList {
-    ghost use Rattle.pool_arena.specs.Fronts.{FrontState};
+    ghost use Rattle.pool_arena.specs.SubpageLists.{SubpagesState};
 
-    ghost Value = { FrontState };
+    ghost Value = { SubpagesState };
 
-    ghost use Rattle.pool_arena.specs.Fronts.{front_in};
+    ghost use Rattle.pool_arena.specs.SubpageLists.{front_in};
 
     ghost view = { front_in };
 }
 
 impl SubpageList {
-    ghost use Rattle.pool_arena.specs.Fronts.{new_front, with_spots, IsFirst, pair_of};
+    ghost use Rattle.pool_arena.specs.SubpageLists.{new_front, with_spots, IsFirst, pair_of};
 
     /// No subpage, and room for so many.
     pub(crate) fn new(alloc: Global, room: usize) -> Result<SubpageList, AllocError>

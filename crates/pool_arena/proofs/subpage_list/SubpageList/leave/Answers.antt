@@ -2,9 +2,9 @@ use Rattle.std.proofs.Common.{rules, ◌≡◌, ap, ◌∙◌}
 use Rattle.std.specs.Prelude.{filter, map}
 use Rattle.std.proofs.lemmas.Fn.{filter_same}
 use Rattle.pool_law.specs.Arenas.{without_spot}
-use Rattle.pool_arena.specs.Fronts.{pair_of, with_spots}
+use Rattle.pool_arena.specs.SubpageLists.{pair_of, with_spots}
 use Rattle.pool_arena.proofs.FrontLaws.{is_other, pairs-left}
-use Rattle.pool_arena.proofs.front.SubpageList.leave.Goals as goal
+use Rattle.pool_arena.proofs.subpage_list.SubpageList.leave.Goals as goal
 
 pub returns : goal.returns
 returns c =
