@@ -5,6 +5,7 @@
 //! Each step is one atomic step on one word. Between any two steps the table is sound
 //! (`specs/Sound.antt`).
 
+mod bare_slot;
 mod closing;
 mod firsts;
 mod index;
@@ -19,7 +20,6 @@ mod rule;
 mod seats;
 mod section;
 mod sections;
-mod spot;
 mod table;
 mod tokens;
 mod views;

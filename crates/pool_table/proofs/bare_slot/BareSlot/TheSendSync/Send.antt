@@ -5,7 +5,7 @@ use mir.Val.{Val}
 use base.Shift.{Keyless}
 use denote.RattleType.{RattleType}
 use denote.Param.Send.{IsSend}
-use Rattle.pool_table.specs.contracts.spot.Spot.{the_own, the_row}
+use Rattle.pool_table.specs.contracts.bare_slot.BareSlot.{the_own, the_row}
 
 own_keyless : (T : RattleType) → IsSend T → (o : Option T.Denot) (vs : List Val) → Keyless (the_own T o vs)
 own_keyless T s (Some x) vs = λ vss. (tt, (s.owned x vss.0, tt))

@@ -8,11 +8,11 @@ use denote.Param.{layout}
 use denote.Param.Laws.{param_laws}
 use denote.Struct.Struct.{as_fields}
 use Rattle.ground.proofs.Walks.{plainly, one, one_had}
-use Rattle.pool_table.specs.contracts.spot.Spot as spot
-use Rattle.pool_table.specs.contracts.spot.Spot.take.{ended, clauses}
-use Rattle.pool_table.specs.contracts.spot.Spot.take.Key.{name as #self}
-use Rattle.pool_table.proofs.spot.Spot.take.Statement.{statement}
-use Rattle.pool_table.proofs.spot.Spot.take.Code as code
+use Rattle.pool_table.specs.contracts.bare_slot.BareSlot as bare
+use Rattle.pool_table.specs.contracts.bare_slot.BareSlot.take.{ended, clauses}
+use Rattle.pool_table.specs.contracts.bare_slot.BareSlot.take.Key.{name as #self}
+use Rattle.pool_table.proofs.bare_slot.BareSlot.take.Statement.{statement}
+use Rattle.pool_table.proofs.bare_slot.BareSlot.take.Code as code
 
 some_in : {A : Type 0} (o : Option A) → IsSome o → (x : A) × (o ≡ Some x)
 some_in (Some x) is = (x, refl)
@@ -22,7 +22,7 @@ pub take_spec : {M : Type 1} → statement M
 take_spec 𝓤 𝓛 𝓜 𝓡 wired T L =
     let H = 𝓛.H in let 𝓣 = tables 𝓤 H 𝓜 𝓡 𝓡.env in let R : RattleType = param 0 T in let En = ended T in
     let inst = layouts (a_type ∷ []) (T, tt) in let fn = inst_fn inst code.function in
-    let S : RattleType = spot.the_row R in let self = plain (λ _. S) in
+    let S : RattleType = bare.the_row R in let self = plain (λ _. S) in
     let hs : Stays En.signature.params En.kept = (stay_ref (0 ∷ []) tt self, tt) in
     let c = clauses T 𝓛 𝓜.mem 𝓡.returns in
     proved 𝓛 En hs c 𝓜 𝓡 (Goes-ref 𝓛 2 0 tt self, tt) (#self inst) fn (code.unfolded 𝓤 H 𝓜 𝓡 wired (T, tt))

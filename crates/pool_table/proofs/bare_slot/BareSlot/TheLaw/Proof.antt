@@ -5,8 +5,8 @@ use denote.Memory.{part_at}
 use denote.Param.Laws.{Laws}
 use denote.SharingLaws.{nothing_shr_laws}
 use denote.Struct.Lending.{Lends-nothing}
-use Rattle.pool_table.specs.contracts.spot.Spot as C
-use Rattle.pool_table.proofs.spot.Spot.TheLaw.Statement.{statement}
+use Rattle.pool_table.specs.contracts.bare_slot.BareSlot as C
+use Rattle.pool_table.proofs.bare_slot.BareSlot.TheLaw.Statement.{statement}
 
 pub shares : (T : RattleType) (L : Laws T) → statement T L
 shares T L = record {

@@ -4,7 +4,7 @@
 ghost use Rattle.std.specs.Prelude.{◌≡◌, ◌∷◌, Option, Some, None, IsSome};
 ghost use base.Fml.{ftrue};
 ghost use Rattle.atomic_table.specs.Table.{rest};
-ghost use Rattle.pool_table.specs.Spots.{owned_if};
+ghost use Rattle.pool_table.specs.BareSlots.{owned_if};
 
 use crate::rule::{Opening, Rule};
 use crate::views::SeatView;
@@ -16,29 +16,29 @@ use step_law::Told;
 
 /// A slot, seen as the value that is in it, if one is. While the value is out its bytes are those of
 /// the value that was in last, and nobody reads them.
-pub struct Spot<H> {
+pub struct BareSlot<H> {
     home: H,
 }
 
-impl<H> Owns for Spot<H> {
+impl<H> Owns for BareSlot<H> {
     ghost Value = { Option H };
 
     ghost shr_at = { λ _ _ _. ftrue };
 }
 
-impl<H> Move for Spot<H> {
+impl<H> Move for BareSlot<H> {
     ghost own_val = { λ o vs. owned_if (λ h. Fields.own_val (record { home = h }) vs) o };
 }
 
-unsafe impl<H: Send> Send for Spot<H> {}
+unsafe impl<H: Send> Send for BareSlot<H> {}
 
-impl<H> Spot<H> {
+impl<H> BareSlot<H> {
     /// A slot with this value in it.
     #[inline(always)]
-    pub(crate) fn of(home: H) -> Spot<H>
+    pub(crate) fn of(home: H) -> BareSlot<H>
         ensures { result ≡ Some home }
     {
-        Spot { home }
+        BareSlot { home }
     }
 
     /// Takes the value out. Nothing is written.
@@ -47,8 +47,8 @@ impl<H> Spot<H> {
         requires { IsSome self.old }
         ensures { (self.old ≡ Some result) × (self.new ≡ None) }
     {
-        let spot = self as *mut Spot<H>;
-        let Spot { home } = unsafe { spot.read() };
+        let bare = self as *mut BareSlot<H>;
+        let BareSlot { home } = unsafe { bare.read() };
         home
     }
 
@@ -62,15 +62,15 @@ impl<H> Spot<H> {
 }
 
 /// Lets a seat go. It has no bytes, and no slot of its own is dropped with it.
-pub(crate) fn let_go<H>(seat: Seat<Spot<H>, SeatView>) {
+pub(crate) fn let_go<H>(seat: Seat<BareSlot<H>, SeatView>) {
     let _gone = unsafe { ManuallyDrop::new_unchecked(seat) };
 }
 
 /// Takes the home value out of the slot that the seat took last.
 #[inline(always)]
 pub(crate) fn taken<H: Told<Note = Noted>>(
-    table: &Shared<Spot<H>, SeatView, Opening<H>, Rule>,
-    seat: &mut Seat<Spot<H>, SeatView>,
+    table: &Shared<BareSlot<H>, SeatView, Opening<H>, Rule>,
+    seat: &mut Seat<BareSlot<H>, SeatView>,
     slot: usize,
 ) -> H
     requires own { seat.old.table_id ≡ table.now.table_id }
@@ -85,8 +85,8 @@ pub(crate) fn taken<H: Told<Note = Noted>>(
 /// Puts a home value back into the slot that the seat took last, which is empty.
 #[inline(always)]
 pub(crate) fn put_back<H: Told<Note = Noted>>(
-    table: &Shared<Spot<H>, SeatView, Opening<H>, Rule>,
-    seat: &mut Seat<Spot<H>, SeatView>,
+    table: &Shared<BareSlot<H>, SeatView, Opening<H>, Rule>,
+    seat: &mut Seat<BareSlot<H>, SeatView>,
     slot: usize,
     home: H,
 )
@@ -95,5 +95,5 @@ pub(crate) fn put_back<H: Told<Note = Noted>>(
     ensures same { (seat.new.table_id ≡ seat.old.table_id) × (seat.new.id ≡ seat.old.id) }
     ensures back { seat.new.me ≡ (seat.old.me.0, (slot, Some home) ∷ rest seat.old.me.1) }
 {
-    table.exchange(seat, slot, Spot::of(home)).leave();
+    table.exchange(seat, slot, BareSlot::of(home)).leave();
 }

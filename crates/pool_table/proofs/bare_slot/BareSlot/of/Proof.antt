@@ -11,12 +11,12 @@ use denote.Param.{layout}
 use denote.Param.Laws.{param_laws}
 use denote.Struct.Struct.{within, as_fields}
 use denote.Struct.Declared.{shape}
-use Rattle.pool_table.specs.contracts.spot.Spot as spot
-use Rattle.pool_table.specs.contracts.spot.Spot.TheInside as inside
-use Rattle.pool_table.specs.contracts.spot.Spot.of.{ended, clauses}
-use Rattle.pool_table.specs.contracts.spot.Spot.of.Key.{name as #self}
-use Rattle.pool_table.proofs.spot.Spot.of.Statement.{statement}
-use Rattle.pool_table.proofs.spot.Spot.of.Code as code
+use Rattle.pool_table.specs.contracts.bare_slot.BareSlot as bare
+use Rattle.pool_table.specs.contracts.bare_slot.BareSlot.TheInside as inside
+use Rattle.pool_table.specs.contracts.bare_slot.BareSlot.of.{ended, clauses}
+use Rattle.pool_table.specs.contracts.bare_slot.BareSlot.of.Key.{name as #self}
+use Rattle.pool_table.proofs.bare_slot.BareSlot.of.Statement.{statement}
+use Rattle.pool_table.proofs.bare_slot.BareSlot.of.Code as code
 
 -- what has one machine value's type is that value
 only_one : (τ : Ty) (vs : List Val) → Typed (τ ∷ []) vs
@@ -30,7 +30,7 @@ of_spec 𝓤 𝓛 𝓜 𝓡 wired X L =
     let H = 𝓛.H in let 𝓣 = tables 𝓤 H 𝓜 𝓡 𝓡.env in let R : RattleType = param 0 X in let En = ended X in
     let c = clauses X 𝓛 𝓜.mem 𝓡.returns in
     let inst = layouts (a_type ∷ []) (X, tt) in let fn = inst_fn inst code.function in
-    let S : RattleType = spot.the_row R in let D = shape (inside.the_type R) in let item = plain (λ _. R) in
+    let S : RattleType = bare.the_row R in let D = shape (inside.the_type R) in let item = plain (λ _. R) in
     let hs : Stays En.signature.params En.kept = (stay_dropped item no, tt) in
     proved_at 𝓛 En hs c 𝓜 𝓡 (Goes-dropped 𝓛 1 item no (λ κs x f. refl), tt) (#self inst) fn
     (code.unfolded 𝓤 H 𝓜 𝓡 wired (X, tt)) (λ z are.
