@@ -13,6 +13,7 @@ pub mod laws;
 mod letters;
 mod making;
 mod opening;
+mod root_rule;
 mod root_sections;
 mod root_words;
 mod roots;

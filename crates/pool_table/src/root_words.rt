@@ -13,7 +13,7 @@ ghost use Rattle.pool_table.specs.Steps.{births, releases};
 
 use crate::bare_slot::BareSlot;
 use crate::index::root_index;
-use crate::rule::{BirthStep, LookStep, ReleaseStep, RetainStep, Rooted, VacateStep};
+use crate::root_rule::{BirthStep, LookStep, ReleaseStep, RetainStep, Rooted, VacateStep};
 use crate::table::PoolTable;
 use crate::views::SeatView;
 use atomic_table::Seat;
