@@ -1,8 +1,8 @@
 -- The bytes of a buffer that its thread alone has, as its calls lay and read them.
-use Rattle.std.proofs.Common.{◌≡◌, ◌⊎◌, ⊎_elim, ℕ, zero, suc, ◌+◌, ◌-◌, ◌<◌, ◌≤◌, max, Bool, true, false, List, [], ◌∷◌, ◌++◌, length, take, drop, replicate, Option, Some, None, refl, sym, ap, ◌∙◌, subst, arith, append-nil}
+use Rattle.std.proofs.Common.{◌≡◌, ◌⊎◌, ⊎_elim, ℕ, zero, suc, ◌+◌, ◌-◌, ◌<◌, ◌≤◌, max, Bool, true, false, List, [], ◌∷◌, ◌++◌, length, take, drop, Option, Some, None, refl, sym, ap, ◌∙◌, subst, arith, append-nil}
 use Rattle.std.specs.Prelude.{◌==◌, ◌&&◌, nat_le, nat_lt, if◌then◌else◌, IfOk, IfSome, MatchResult, OnOk, Result, Ok, Err}
 use Rattle.std.proofs.Math.Seq.{drop-nil, take-append-add, take-nil}
-use Rattle.std.proofs.lemmas.List.{drop-take, length-replicate}
+use Rattle.std.proofs.lemmas.List.{drop-take}
 use Rattle.pool_law.specs.declared.id.RootId.{RootId}
 use Rattle.pool_law.specs.declared.id.ViewData.{ViewData}
 use Rattle.pool_law.specs.Roots.{bytes_at, laid_over}
@@ -119,15 +119,6 @@ pub lone_same : (w : Window) (old new : Member) → KeepsAlone None old new → 
     → bytes_of new w ≡ bytes_of old w
 lone_same w old new keeps alone =
     ap (λ (l : List ℕ). bytes_at l w.at.offset w.at.len) (keeps w.at.root (not_none w.at.root) alone).1
-
--- those of a new one are 0
-pub lone_zeros : (root : RootId) (m : Member) → laid_in m root ≡ replicate root.capacity 0
-    → (w : Window) → w.at ≡ view_of root → bytes_of m w ≡ replicate root.capacity 0
-lone_zeros root m zeros w whole =
-    (λ i. bytes_at (laid_in m (whole i).root) (whole i).offset (whole i).len)
-    ∙ ap (take root.capacity) zeros
-    ∙ take_more root.capacity (replicate root.capacity 0)
-    (let a = length-replicate {A = ℕ} root.capacity 0 in omega (arith, a))
 
 -- ---- A thread that keeps that it alone has a root.
 

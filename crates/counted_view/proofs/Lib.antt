@@ -3,5 +3,4 @@ pub mod ClimbLaws
 pub mod LiveLaws
 pub mod TreeLaws
 pub mod SeatLaws
-pub mod NestLaws
 pub mod RootLaws

@@ -12,6 +12,7 @@ use text_ends::{StdSink, StdSource};
 mod answer;
 mod closing;
 mod hashing;
+mod hiring;
 mod line;
 mod openings;
 mod pages;

@@ -1,16 +1,16 @@
 //! A pool with a lane for each worker and one for the cutter, and all that they start with.
 
-ghost use Rattle.std.specs.Prelude.{◌≡◌, ℕ, ◌+◌, ◌*◌, ◌<◌, ◌≤◌, [], drop, length, replicate, slice_index, IfOk, Some, vec_capacity, vec_len};
+ghost use Rattle.std.specs.Prelude.{◌≡◌, ℕ, ◌+◌, ◌*◌, ◌<◌, ◌≤◌, replicate, slice_index, IfOk, Some};
 ghost use Rattle.size_classes.specs.Sizes.{class_of, of_pages};
 ghost use Rattle.size_classes.specs.declared.TheConstants.{DEFAULT_PAGE};
 ghost use Rattle.frame_words.specs.Words.{AreOptions};
-ghost use Rattle.frame_cut.specs.Openings.{AreHired, AreLines, IsNewCutter, IsNewPool, IsNewWorker, layout_of, room_of};
+ghost use Rattle.frame_cut.specs.Openings.{AreLines, IsNewPool, layout_of, room_of};
 ghost use Rattle.frame_cut.specs.Tellings.{IsOpen};
 
+use crate::hiring::{hire, new_cutter};
 use frame_core::{MAX_FRAMES, MAX_STREAM};
-use frame_cutter::{Cutter, MOST_SLICES, Stage, Verdict};
-use frame_hash::{HashOf, Work, Worker};
-use frame_slices::Slicer;
+use frame_cutter::{Cutter, MOST_SLICES};
+use frame_hash::{HashOf, Worker};
 use frame_words::CutOptions;
 use job_queue::{JobEnd, JobQueue, new_queue};
 use pool_law::{Level, Shape};
@@ -193,74 +193,4 @@ fn new_pool(
     let used = (lanes * lanes) as usize;
     let (pool, seats) = SharedPool::new(alloc, layout_for(lanes), &mail[..used])?;
     Ok((pool, seats))
-}
-
-// The workers, each with the seat of its number and its end of its queue.
-fn hire(
-    alloc: Global,
-    count: u32,
-    seats: &mut Vec<PoolSeat>,
-    mut receivers: Vec<JobEnd>,
-    mut workers: Vec<Worker>,
-) -> Vec<Worker>
-    requires seats { count ≤ vec_len seats.old }
-    requires receivers { vec_len receivers ≡ count }
-    requires workers { (workers.items ≡ []) × (count ≤ vec_capacity workers) }
-    ensures hired { AreHired count seats.old.items receivers.items count result.items }
-    ensures left { seats.new.items ≡ drop count seats.old.items }
-    ensures room { vec_capacity seats.new ≡ vec_capacity seats.old }
-{
-    for number in 0..count {
-        let seat = seats.remove(0);
-        let jobs = receivers.remove(0);
-        workers.push_reserved(new_worker(alloc, count, number, seat, jobs));
-    }
-    workers
-}
-
-// A worker that has nothing to do yet.
-fn new_worker(alloc: Global, cutter: u32, number: u32, seat: PoolSeat, jobs: JobEnd) -> Worker
-    ensures { IsNewWorker cutter number seat jobs result }
-{
-    Worker {
-        seat,
-        number,
-        cutter,
-        jobs,
-        turns: SEAT_TURNS,
-        hashes: Vec::new(alloc),
-        work: Work::Idle,
-    }
-}
-
-// A cutter that has read nothing yet.
-fn new_cutter(
-    alloc: Global,
-    workers: u32,
-    seat: PoolSeat,
-    ends: Vec<JobEnd>,
-    rooms: Vec<u32>,
-    block: u32,
-    class: u32,
-) -> Cutter
-    ensures { IsNewCutter workers seat ends.items rooms.items block class result }
-{
-    Cutter {
-        alloc,
-        seat,
-        workers,
-        ends,
-        slicer: Slicer::new(),
-        block,
-        finds: Vec::new(alloc),
-        last: false,
-        class,
-        turns: SEAT_TURNS,
-        moves: MOST_SLICES,
-        rooms,
-        frames: 0,
-        slices: Vec::new(alloc),
-        stage: Stage::Filling,
-        verdict: Verdict::Whole,
-    }
 }

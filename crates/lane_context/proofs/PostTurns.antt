@@ -363,15 +363,3 @@ module _ (pool : SharedPool) (fresh from : ℕ) (old start mid new : Context)
       let a = few_counted old.counts (entries_of old) may.context.counts root in let b =
       length-map (notes_of old) entry_of in let e = may.room.few in
       let g = ap (λ (cs : List Counted). counted cs root) mid_counts_are in omega (arith, a, b, e, g)
-
-  pub can_answer_fetched : CanAnswer mid
-  can_answer_fetched =
-      can_answer_noted pool (left_for old.composes (Command.Recv fresh from)) old may (omega arith) start mid
-      (Note.At (Mail from (lane_of old.seat)) number (Did.Fetch parcel)) noted
-      (start_is ∙ (λ i. record old {
-        seat = start.seat;
-        counts = sym (ap (λ (x : Context). x.counts) start_is) i;
-        sampler =
-            sym (ap (λ (x : Context). x.sampler) start_is) i;
-        asked = sym (ap (λ (x : Context). x.asked) start_is) i;
-      }))

@@ -18,7 +18,7 @@ ghost use Rattle.lane_context.specs.Named.{known_to};
 use crate::access::{Access, Reach, Refusal, derived};
 use crate::bound::Bound;
 use crate::context::{Context, Stage, Turn, waits};
-use lane_stages::{at, write};
+use lane_stages::note_at;
 use pool_law::{Bytes, Command, Did, Held, Note, Object, Reply};
 use shared_pool::{SharedPool, Went};
 
@@ -54,7 +54,7 @@ impl Context {
         match pool.write(&mut self.seat, root, offset, &bytes, reach.tries) {
             Went::Did(number, ()) => {
                 let bytes = Bytes::of(bytes);
-                self.note(at(Object::Root(root.place), number, Did::Set { offset, bytes }));
+                self.note(note_at(Object::Root(root.place), number, Did::Set { offset, bytes }));
                 self.names.bind(reach.name, Bound::Plain(reach.after));
                 self.answer(Reply::Ok)
             }
@@ -82,7 +82,7 @@ impl Context {
             Went::Did(number, ()) => {
                 reply.copy_from_slice(&note);
                 let bytes = Bytes::of(note);
-                self.note(at(Object::Root(root.place), number, Did::Get { offset, bytes }));
+                self.note(note_at(Object::Root(root.place), number, Did::Get { offset, bytes }));
                 self.names.bind(reach.name, Bound::Plain(reach.after));
                 self.answer(Reply::OkBytes(Bytes::of(reply)))
             }

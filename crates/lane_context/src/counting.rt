@@ -20,7 +20,7 @@ ghost use Rattle.lane_context.specs.declared.context.Stage.{Stage};
 use crate::access::{Owned, Refusal, counted, own_count};
 use crate::context::{Context, Stage, Turn, waits};
 use byte_view::View;
-use lane_stages::{Ending, StageStep, at, end, to};
+use lane_stages::{Ending, StageStep, end, note_at, note_to};
 use pool_law::{Command, Did, Held, Object, RefDid, Reply, RootId};
 use shared_pool::{Release, SharedPool, Went};
 
@@ -33,7 +33,7 @@ impl Context {
         ensures { HasRetained pool.now self.old self.new root }
     {
         pool.retain(&mut self.seat, root);
-        self.note(to(root, RefDid::Retain));
+        self.note(note_to(root, RefDid::Retain));
         self.counts.add(root);
     }
 
@@ -80,11 +80,11 @@ impl Context {
         self.counts.take(root);
         match release {
             Release::Kept => {
-                self.note(to(root, RefDid::Kept));
+                self.note(note_to(root, RefDid::Kept));
                 self.answer(Reply::Kept)
             }
             Release::Ended(token) => {
-                self.note(to(root, RefDid::Ended));
+                self.note(note_to(root, RefDid::Ended));
                 Turn::Went(Stage::Ending(Ending::Root(token)))
             }
         }
@@ -116,7 +116,7 @@ impl Context {
             Err(refusal) => return self.refuse(refusal),
         };
         let count = pool.look(&mut self.seat, root);
-        self.note(to(root, RefDid::Look(count)));
+        self.note(note_to(root, RefDid::Look(count)));
         self.answer(Reply::OkNumber(count))
     }
 
@@ -130,7 +130,7 @@ impl Context {
         };
         match pool.touch(&mut self.seat, root) {
             Went::Did(number, ()) => {
-                self.note(at(Object::Root(root.place), number, Did::Touch));
+                self.note(note_at(Object::Root(root.place), number, Did::Touch));
                 self.answer(Reply::Ok)
             }
             Went::Held(held, ()) => waits(held),

@@ -8,12 +8,14 @@ mod accessing;
 mod allocating;
 mod bound;
 mod composed;
+mod consolidating;
 mod context;
 mod counting;
 mod names;
 mod passing;
 mod regrowing;
 mod sweeping;
+mod turns;
 mod work;
 mod working;
 

@@ -16,7 +16,7 @@ use crate::access::counted;
 use crate::bound::Bound;
 use crate::context::{Context, Turn};
 use byte_view::View;
-use lane_stages::{at, lane_of, to};
+use lane_stages::{lane_of, note_at};
 use pool_law::{Command, Did, Object, Parcel, Reply};
 use shared_pool::{Fetched, SharedPool};
 use std::sync::Wait;
@@ -72,7 +72,7 @@ impl Context {
             to: lane,
         };
         let number = pool.post(rt, &mut self.seat, lane, sent);
-        self.note(at(mail, number, Did::Post(sent)));
+        self.note(note_at(mail, number, Did::Post(sent)));
     }
 
     pub(crate) fn receive<W: Wait>(
@@ -94,7 +94,7 @@ impl Context {
         };
         match pool.fetch(rt, &mut self.seat, lane) {
             Fetched::Got(number, parcel) => {
-                self.note(at(mail, number, Did::Fetch(parcel)));
+                self.note(note_at(mail, number, Did::Fetch(parcel)));
                 match parcel.view {
                     Some(view) => {
                         self.counts.add(view.root);

@@ -1,5 +1,5 @@
 -- A composite that is to be made: whether it is too long, its parts, and the work that binds it.
-use Rattle.std.proofs.Common.{◌≡◌, ℕ, ◌<◌, ◌≤◌, Bool, true, false, List, [], ◌∷◌, length, map, sym, ap, ◌∙◌, subst, arith, Option, Some, None}
+use Rattle.std.proofs.Common.{◌≡◌, ℕ, ◌<◌, ◌≤◌, Bool, true, false, List, [], ◌∷◌, length, map, sym, ap, ◌∙◌, subst, arith, Option, Some}
 use Rattle.std.specs.Prelude.{All, not, ◌||◌, ◌&&◌, ◌==◌, is_none}
 use Rattle.std.proofs.lemmas.Bool.{lt-ltb, le-ltb, ltb-false}
 use Rattle.std.proofs.lemmas.List.Elements.{All-nil, All-cons, All-head, All-tail, All-same, All-filter}
@@ -26,10 +26,6 @@ use Rattle.lane_context.specs.Works.{IsReady}
 -- ---- Which composites are too long.
 
 module _ (shape : Shape) (c : Composite) where
-  pub too_many_bytes : most_bytes < size_of c.parts → is_too_long shape (Some c) ≡ true
-  too_many_bytes lt =
-      ap (λ (b : Bool). b || (is_crowded c && has_no_class shape (size_of c.parts)))
-      (lt-ltb most_bytes (size_of c.parts) lt)
 
   few_bytes : size_of c.parts ≤ most_bytes → is_too_long shape (Some c)
       ≡ (is_crowded c && has_no_class shape (size_of c.parts))
@@ -37,24 +33,13 @@ module _ (shape : Shape) (c : Composite) where
       ap (λ (b : Bool). b || (is_crowded c && has_no_class shape (size_of c.parts)))
       (le-ltb most_bytes (size_of c.parts) le)
 
-  pub is_uncrowded : length c.parts ≤ most_parts → is_crowded c ≡ false
-  is_uncrowded le = le-ltb most_parts (length c.parts) le
-
   pub is_crowded_so : most_parts < length c.parts → is_crowded c ≡ true
   is_crowded_so lt = lt-ltb most_parts (length c.parts) lt
-
-  pub stays : size_of c.parts ≤ most_bytes → length c.parts ≤ most_parts → is_too_long shape (Some c) ≡ false
-  stays le few =
-      few_bytes le ∙ ap (λ (b : Bool). b && has_no_class shape (size_of c.parts)) (is_uncrowded few)
 
   by_class : size_of c.parts ≤ most_bytes → most_parts < length c.parts
       → is_too_long shape (Some c) ≡ is_none (class_of (geometry_of shape) (size_of c.parts))
   by_class le lt =
       few_bytes le ∙ ap (λ (b : Bool). b && has_no_class shape (size_of c.parts)) (is_crowded_so lt)
-
-  pub has_none : size_of c.parts ≤ most_bytes → most_parts < length c.parts
-      → class_of (geometry_of shape) (size_of c.parts) ≡ None → is_too_long shape (Some c) ≡ true
-  has_none le lt none = by_class le lt ∙ ap (λ (o : Option ℕ). is_none o) none
 
   pub has_class : (class : ℕ) → size_of c.parts ≤ most_bytes → most_parts < length c.parts
       → class_of (geometry_of shape) (size_of c.parts) ≡ Some class → is_too_long shape (Some c) ≡ false

@@ -2,6 +2,7 @@
 //! What a command of a lane is to do, and all memory for it, before its first note.
 
 mod composing;
+mod crossings;
 mod planning;
 mod preparing;
 mod refusing;

@@ -10,12 +10,13 @@ ghost use Rattle.pool_law.specs.Names.{Composed as Bound, has_range};
 ghost use Rattle.lane_context.specs.Accesses.{IsState};
 ghost use Rattle.lane_context.specs.Contexts.{FitsContext};
 ghost use Rattle.lane_context.specs.Named.{AreComposites, AreInside, known_to};
-ghost use Rattle.lane_plans.specs.Plans.{GetsAt, IsDenied, IsPlanOf, IsUsable, SetsAt, work_on};
+ghost use Rattle.lane_plans.specs.Plans.{IsDenied, IsPlanOf, IsUsable};
 ghost use Rattle.lane_context.specs.Works.{IsPlanned, IsReady, IsUnplanned};
 
 use crate::composing::{add, compose};
+use crate::crossings::{crossing, get_stage, set_stage};
 use lane_context::{Composed, Context, Marks, Refusal, Work};
-use lane_stages::{Crossing, OwnCounts, Stretch, next_of};
+use lane_stages::OwnCounts;
 use pool_law::{Bytes, Command, Reply};
 use std::alloc::{AllocError, Global};
 
@@ -215,63 +216,4 @@ pub(crate) fn is_usable(counts: &OwnCounts, whole: &Composed) -> bool
         }
     }
     true
-}
-
-// The stretches of a range that is set to these bytes.
-fn set_stage(
-    alloc: Global,
-    whole: &Composed,
-    at: u32,
-    bytes: &[u8],
-) -> Result<Option<Crossing>, AllocError>
-    requires inside { at + length bytes.now ≤ size_of whole.now.parts }
-    requires small { size_of whole.now.parts ≤ most_bytes }
-    ensures { IfOk result (SetsAt whole.now at bytes.now) }
-{
-    let parts = whole.parts().ranges(alloc, at, bytes.len() as u32)?;
-    let mut stretches = Vec::with_capacity(alloc, parts.items().len())?;
-    let mut from = 0;
-    for part in parts.items() {
-        let behind = from + part.len as usize;
-        let bytes = Vec::from_slice(alloc, &bytes[from..behind])?;
-        stretches.push_reserved(Stretch { part: *part, bytes });
-        from = behind;
-    }
-    let Some((first, later)) = next_of(stretches) else {
-        return Ok(None);
-    };
-    Ok(Some(Crossing::Set(first, later)))
-}
-
-// The stretches of a range that is got.
-fn get_stage(
-    alloc: Global,
-    whole: &Composed,
-    at: u32,
-    len: u32,
-) -> Result<Option<Crossing>, AllocError>
-    requires { at + len ≤ size_of whole.now.parts }
-    ensures { IfOk result (GetsAt whole.now at len) }
-{
-    let parts = whole.parts().ranges(alloc, at, len)?;
-    let mut stretches = Vec::with_capacity(alloc, parts.items().len())?;
-    for part in parts.items() {
-        let bytes = Vec::from_elem(alloc, 0, part.len as usize)?;
-        stretches.push_reserved(Stretch { part: *part, bytes });
-    }
-    let Some((first, later)) = next_of(stretches) else {
-        return Ok(None);
-    };
-    let got = Vec::with_capacity(alloc, len as usize)?;
-    Ok(Some(Crossing::Get(first, later, got)))
-}
-
-// The work on a range: where it has no bytes, the reply is this.
-fn crossing(name: u32, marks: Option<Marks>, stage: Option<Crossing>, reply: Reply) -> Work
-    ensures { result ≡ work_on name marks stage reply }
-{
-    match stage {
-        Some(stage) => Work::Cross { name, marks, stage },
-        None => Work::Empty { name, marks, reply },
-    }
 }

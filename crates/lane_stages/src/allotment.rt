@@ -9,7 +9,7 @@ ghost use Rattle.shared_pool.specs.Wearing.{IsShort};
 ghost use Rattle.lane_stages.specs.declared.allotment.Allotting.{Allotting};
 ghost use Rattle.lane_stages.specs.Allotments.{MayAllot, HasAllotted, left_of};
 
-use crate::notes::{at, lane_of, to, write};
+use crate::notes::{lane_of, note_at, note_to, write_note};
 use crate::stage_step::StageStep;
 use handle_bin::Handle;
 use leak_records::Sampler;
@@ -87,11 +87,11 @@ fn ask_bin(
     let bin = Object::Bin(lane_of(seat));
     match pool.pop_handle(seat) {
         Went::Did(number, None) => {
-            write(log, at(bin, number, Did::NoHandle));
+            write_note(log, note_at(bin, number, Did::NoHandle));
             StageStep::Done(Allotted::NoHandle)
         }
         Went::Did(number, Some(handle)) => {
-            write(log, at(bin, number, Did::Handle(handle.place())));
+            write_note(log, note_at(bin, number, Did::Handle(handle.place())));
             if class < CACHED_CLASSES {
                 StageStep::More(Allotting::Cache(handle))
             } else {
@@ -121,15 +121,15 @@ fn ask_cache(
     };
     match pool.pop_cached(seat, class) {
         Went::Did(number, Some(region)) => {
-            write(log, at(cache, number, Did::Hit(region.id)));
+            write_note(log, note_at(cache, number, Did::Hit(region.id)));
             StageStep::More(Allotting::Birth(handle, region))
         }
         Went::Did(number, None) => {
-            write(log, at(cache, number, Did::Miss));
+            write_note(log, note_at(cache, number, Did::Miss));
             StageStep::More(Allotting::Arena(handle))
         }
         Went::Held(held, ()) => {
-            write(log, Note::Busy(held));
+            write_note(log, Note::Busy(held));
             StageStep::More(Allotting::Arena(handle))
         }
     }
@@ -158,11 +158,11 @@ fn ask_arena(
                 class,
                 region: region.id,
             };
-            write(log, at(arena, number, did));
+            write_note(log, note_at(arena, number, did));
             StageStep::More(Allotting::Birth(handle, region))
         }
         Went::Did(number, None) => {
-            write(log, at(arena, number, Did::Full { class }));
+            write_note(log, note_at(arena, number, Did::Full { class }));
             StageStep::More(Allotting::Home(handle))
         }
         Went::Held(held, ()) => StageStep::Held(held, Allotting::Arena(handle)),
@@ -194,8 +194,8 @@ fn bear(
         ..id
     };
     let did = Did::Birth { root, region: used };
-    write(log, at(Object::Root(root.place), number, did));
-    write(log, to(root, RefDid::Born));
+    write_note(log, note_at(Object::Root(root.place), number, did));
+    write_note(log, note_to(root, RefDid::Born));
     StageStep::Done(Allotted::New(root, used))
 }
 
@@ -215,7 +215,7 @@ fn go_home(
     let place = handle.place();
     match pool.put_handle(seat, handle) {
         Went::Did(number, ()) => {
-            write(log, at(bin, number, Did::Home(place)));
+            write_note(log, note_at(bin, number, Did::Home(place)));
             StageStep::Done(Allotted::Full)
         }
         Went::Held(held, handle) => StageStep::Held(held, Allotting::Home(handle)),

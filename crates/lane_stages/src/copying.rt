@@ -5,7 +5,7 @@ ghost use Rattle.std.specs.Prelude.{◌+◌, ◌<◌, ◌≤◌, length, vec_cap
 ghost use Rattle.lane_stages.specs.Copyings.{HasCopied, MayCopy, left_of};
 ghost use Rattle.lane_stages.specs.declared.copying.Copying.{Copying};
 
-use crate::notes::{at, write};
+use crate::notes::{note_at, write_note};
 use crate::stage_step::StageStep;
 use pool_law::{Bytes, Did, Note, Object, Part, RootId};
 use shared_pool::{PoolSeat, SharedPool, Went};
@@ -13,8 +13,11 @@ use shared_pool::{PoolSeat, SharedPool, Went};
 /// A part that is to be copied, with the memory for the two notes of that.
 #[derive(Drop)]
 pub struct Transfer {
+    /// Where its bytes lie.
     pub part: Part,
+    /// As many bytes as the part has, into which it is got.
     pub got: Vec<u8>,
+    /// As many again, which are set in the root.
     pub set: Vec<u8>,
 }
 
@@ -23,16 +26,24 @@ pub struct Transfer {
 pub enum Copying {
     /// This part is got next, and then set; behind it these are copied.
     Get {
+        /// The root that they are copied to.
         root: RootId,
+        /// The index in it at which this part begins.
         at: u32,
+        /// The part that is got.
         first: Transfer,
+        /// The parts behind it, in order.
         later: Vec<Transfer>,
     },
     /// These bytes were got, and are set next.
     Set {
+        /// The root that they are copied to.
         root: RootId,
+        /// The index in it at which they begin.
         at: u32,
+        /// The bytes of the part that was got.
         bytes: Vec<u8>,
+        /// The parts that are still to be copied, in order.
         later: Vec<Transfer>,
     },
 }
@@ -88,7 +99,7 @@ fn get_next(
             bytes.copy_from_slice(&first.got);
             let got = Bytes::of(first.got);
             let did = Did::Get { offset, bytes: got };
-            write(log, at(Object::Root(root.place), number, did));
+            write_note(log, note_at(Object::Root(root.place), number, did));
             StageStep::More(Copying::Set {
                 root: goal.0,
                 at: goal.1,
@@ -127,7 +138,7 @@ fn set_next(
             let behind = offset + bytes.len() as u32;
             let bytes = Bytes::of(bytes);
             let did = Did::Set { offset, bytes };
-            write(log, at(Object::Root(root.place), number, did));
+            write_note(log, note_at(Object::Root(root.place), number, did));
             if later.is_empty() {
                 return StageStep::Done(());
             }

@@ -2,10 +2,11 @@
 //! (Netty: `CompositeByteBuf.setBytes`, `getBytes`)
 
 ghost use Rattle.std.specs.Prelude.{◌≡◌, ◌+◌, ◌<◌, ◌≤◌, ◌++◌, length, vec_capacity};
-ghost use Rattle.lane_stages.specs.Crossings.{HasCrossed, MayCross, NextOf, left_of};
+ghost use Rattle.lane_stages.specs.Crossings.{HasCrossed, MayCross, left_of};
 ghost use Rattle.lane_stages.specs.declared.crossing.Crossing.{Crossing};
 
-use crate::notes::{at, write};
+use crate::lists::next_of;
+use crate::notes::{note_at, write_note};
 use crate::stage_step::StageStep;
 use pool_law::{Bytes, Did, Note, Object, Part};
 use shared_pool::{PoolSeat, SharedPool, Went};
@@ -13,7 +14,9 @@ use shared_pool::{PoolSeat, SharedPool, Went};
 /// A part whose bytes are set or got, with the memory for the note of that.
 #[derive(Drop)]
 pub struct Stretch {
+    /// Where its bytes lie.
     pub part: Part,
+    /// The bytes that it is set to, or as many, into which it is got.
     pub bytes: Vec<u8>,
 }
 
@@ -72,7 +75,7 @@ fn set_next(
         Went::Did(number, ()) => {
             let bytes = Bytes::of(first.bytes);
             let did = Did::Set { offset, bytes };
-            write(log, at(Object::Root(root.place), number, did));
+            write_note(log, note_at(Object::Root(root.place), number, did));
             match next_of(later) {
                 Some((first, later)) => StageStep::More(Crossing::Set(first, later)),
                 None => StageStep::Done(Crossed::Set),
@@ -105,7 +108,7 @@ fn get_next(
             append(&mut got, &first.bytes);
             let bytes = Bytes::of(first.bytes);
             let did = Did::Get { offset, bytes };
-            write(log, at(Object::Root(root.place), number, did));
+            write_note(log, note_at(Object::Root(root.place), number, did));
             match next_of(later) {
                 Some((first, later)) => StageStep::More(Crossing::Get(first, later, got)),
                 None => StageStep::Done(Crossed::Got(got)),
@@ -113,17 +116,6 @@ fn get_next(
         }
         Went::Held(held, ()) => StageStep::Held(held, Crossing::Get(first, later, got)),
     }
-}
-
-/// The first of these, if there is one, and those behind it.
-pub fn next_of<T: Drop>(mut left: Vec<T>) -> Option<(T, Vec<T>)>
-    ensures { NextOf left.items result }
-{
-    if left.is_empty() {
-        return None;
-    }
-    let first = left.remove(0);
-    Some((first, left))
 }
 
 // Puts bytes behind others, where there is room for them.

@@ -14,7 +14,7 @@ ghost use Rattle.shared_pool.specs.Seats.{IsPoolSeat, IsNoted, FoundBusy};
 ghost use Rattle.lane_stages.specs.declared.draining.Draining.TheVariants.{Ask, Shed, Give, Done};
 ghost use Rattle.lane_stages.specs.Drainings.{MayDrain, HasDrained, IsNext, IsReadNext, quota_note, hand_of, left_of};
 
-use crate::notes::{at, lane_of, write};
+use crate::notes::{lane_of, note_at, write_note};
 use pool_law::{Did, Held, Note, Object, Region};
 use shared_pool::{PoolSeat, SharedPool, Went};
 use size_classes::CACHED_CLASSES;
@@ -32,17 +32,23 @@ pub enum DrainKind {
 pub enum Draining {
     /// The cache of a class is asked how many regions are to be shed.
     Ask {
+        /// The class of its regions.
         class: u32,
     },
     /// So many regions are still to be shed from the cache of a class.
     Shed {
+        /// The class of its regions.
         class: u32,
+        /// How many are still to be shed.
         left: u32,
     },
     /// A region that was shed is given to its arena, and so many are left.
     Give {
+        /// The class of the cache that it comes of.
         class: u32,
+        /// How many are still to be shed behind it.
         left: u32,
+        /// The region, which isn't in the cache any more.
         region: Region,
     },
     /// All caches are drained.
@@ -150,7 +156,7 @@ fn ask(
     };
     match quota(pool, seat, kind, class) {
         Went::Did(number, quota) => {
-            write(log, at(cache, number, noted(kind, quota)));
+            write_note(log, note_at(cache, number, noted(kind, quota)));
             Drains::More(after(kind, class, quota))
         }
         Went::Held(held, ()) => Drains::Held(held, Draining::Ask { class }),
@@ -175,7 +181,7 @@ fn shed(
     };
     match pool.shed(seat, class) {
         Went::Did(number, region) => {
-            write(log, at(cache, number, Did::Shed(region.id)));
+            write_note(log, note_at(cache, number, Did::Shed(region.id)));
             let next = Draining::Give {
                 class,
                 left: left - 1,
@@ -205,7 +211,7 @@ fn give(
     let arena = Object::Arena(id.place.arena);
     match pool.give(seat, region) {
         Went::Did(number, ()) => {
-            write(log, at(arena, number, Did::Give(id)));
+            write_note(log, note_at(arena, number, Did::Give(id)));
             Drains::More(after(kind, class, left))
         }
         Went::Held(held, region) => {

@@ -4,13 +4,14 @@
 ghost use Rattle.std.specs.Prelude.{◌≡◌, ◌+◌, ◌<◌, ◌≤◌, length, Some, vec_capacity};
 ghost use Rattle.size_classes.specs.Sizes.{class_count, class_of, size_at};
 ghost use Rattle.pool_law.specs.Limits.{geometry_of};
-ghost use Rattle.lane_stages.specs.Growings.{MayGrow, HasGrown, leaving, left_of, obtaining};
+ghost use Rattle.lane_stages.specs.Growings.{MayGrow, HasGrown, left_of, obtaining};
 ghost use Rattle.lane_stages.specs.declared.growing.Growing.{Growing};
 
-use crate::notes::{at, lane_of, write};
+use crate::leftover::{give_back, leaving, put_away};
+use crate::notes::{lane_of, note_at, write_note};
 use crate::stage_step::StageStep;
 use pool_law::{Did, Note, Object, Region, RegionId, RootId, Shape};
-use shared_pool::{Grown, PoolSeat, Put, Room, SharedPool, Went};
+use shared_pool::{Grown, PoolSeat, Room, SharedPool, Went};
 use size_classes::CACHED_CLASSES;
 
 /// What is to be done next for a root that is asked for capacity.
@@ -39,10 +40,10 @@ pub enum Regrown {
 
 // What is asked of a root: a capacity of so many bytes, whose class is this.
 #[derive(Clone, Copy, Drop)]
-struct Want {
-    root: RootId,
-    size: u32,
-    class: u32,
+pub(crate) struct Want {
+    pub(crate) root: RootId,
+    pub(crate) size: u32,
+    pub(crate) class: u32,
 }
 
 /// Does the next thing for a root that the seat counts and asks for a capacity of `size` bytes, whose
@@ -92,15 +93,15 @@ fn ask_root(
     let place = Object::Root(want.root.place);
     match pool.room(seat, want.root, asked) {
         Went::Did(number, Room::Enough(capacity)) => {
-            write(log, at(place, number, Did::Room { asked, capacity }));
+            write_note(log, note_at(place, number, Did::Room { asked, capacity }));
             StageStep::Done(Regrown::Has(capacity))
         }
         Went::Did(number, Room::Extended) => {
-            write(log, at(place, number, Did::Extend(asked)));
+            write_note(log, note_at(place, number, Did::Extend(asked)));
             StageStep::Done(Regrown::Has(asked))
         }
         Went::Did(number, Room::Short(capacity)) => {
-            write(log, at(place, number, Did::Room { asked, capacity }));
+            write_note(log, note_at(place, number, Did::Room { asked, capacity }));
             StageStep::More(obtaining(want.class))
         }
         Went::Held(held, ()) => StageStep::Held(held, Growing::Ask),
@@ -136,15 +137,15 @@ fn ask_cache(
     };
     match pool.pop_cached(seat, class) {
         Went::Did(number, Some(region)) => {
-            write(log, at(cache, number, Did::Hit(region.id)));
+            write_note(log, note_at(cache, number, Did::Hit(region.id)));
             StageStep::More(Growing::Grow(region))
         }
         Went::Did(number, None) => {
-            write(log, at(cache, number, Did::Miss));
+            write_note(log, note_at(cache, number, Did::Miss));
             StageStep::More(Growing::Arena)
         }
         Went::Held(held, ()) => {
-            write(log, Note::Busy(held));
+            write_note(log, Note::Busy(held));
             StageStep::More(Growing::Arena)
         }
     }
@@ -172,11 +173,11 @@ fn ask_arena(
                 class,
                 region: region.id,
             };
-            write(log, at(arena, number, did));
+            write_note(log, note_at(arena, number, did));
             StageStep::More(Growing::Grow(region))
         }
         Went::Did(number, None) => {
-            write(log, at(arena, number, Did::Full { class }));
+            write_note(log, note_at(arena, number, Did::Full { class }));
             StageStep::Done(Regrown::Full)
         }
         Went::Held(held, ()) => StageStep::Held(held, Growing::Arena),
@@ -203,11 +204,11 @@ fn grow_into(
     let id = region.id;
     match pool.grow(seat, want.root, asked, region) {
         Went::Did(number, Grown::Enough(capacity, region)) => {
-            write(log, at(place, number, Did::Room { asked, capacity }));
+            write_note(log, note_at(place, number, Did::Room { asked, capacity }));
             StageStep::More(leaving(capacity, region))
         }
         Went::Did(number, Grown::Extended(region)) => {
-            write(log, at(place, number, Did::Extend(asked)));
+            write_note(log, note_at(place, number, Did::Extend(asked)));
             StageStep::More(leaving(asked, region))
         }
         Went::Did(number, Grown::Replaced(left)) => {
@@ -219,80 +220,9 @@ fn grow_into(
                 capacity: asked,
                 region: used,
             };
-            write(log, at(place, number, did));
+            write_note(log, note_at(place, number, did));
             StageStep::More(leaving(asked, left))
         }
         Went::Held(held, region) => StageStep::Held(held, Growing::Grow(region)),
-    }
-}
-
-// Where a region that is left over goes first, once the root has this capacity.
-fn leaving(capacity: u32, region: Region) -> Growing
-    ensures { result ≡ leaving capacity region }
-{
-    if region.id.class < CACHED_CLASSES {
-        Growing::Put(capacity, region)
-    } else {
-        Growing::Give(capacity, region)
-    }
-}
-
-fn put_away(
-    pool: &SharedPool,
-    seat: &mut PoolSeat,
-    log: &mut Vec<Note>,
-    want: Want,
-    capacity: u32,
-    region: Region,
-) -> StageStep<Growing, Regrown>
-    requires may { MayGrow pool.now seat.old want.root want.size want.class
-        (Growing.Put capacity region) }
-    requires room { length log.old.items < vec_capacity log.old }
-    ensures { HasGrown pool.now seat.old seat.new log.old log.new want.root want.size want.class
-        (Growing.Put capacity region) result }
-{
-    let id = region.id;
-    let cache = Object::Cache {
-        lane: id.owner,
-        class: id.class,
-    };
-    match pool.put_cached(seat, region) {
-        Went::Did(number, Put::Kept) => {
-            write(log, at(cache, number, Did::Kept(id)));
-            StageStep::Done(Regrown::Has(capacity))
-        }
-        Went::Did(number, Put::Back(region, no)) => {
-            write(log, at(cache, number, Did::Back { region: id, no }));
-            StageStep::More(Growing::Give(capacity, region))
-        }
-        Went::Held(held, region) => {
-            write(log, Note::Busy(held));
-            StageStep::More(Growing::Give(capacity, region))
-        }
-    }
-}
-
-fn give_back(
-    pool: &SharedPool,
-    seat: &mut PoolSeat,
-    log: &mut Vec<Note>,
-    want: Want,
-    capacity: u32,
-    region: Region,
-) -> StageStep<Growing, Regrown>
-    requires may { MayGrow pool.now seat.old want.root want.size want.class
-        (Growing.Give capacity region) }
-    requires room { length log.old.items < vec_capacity log.old }
-    ensures { HasGrown pool.now seat.old seat.new log.old log.new want.root want.size want.class
-        (Growing.Give capacity region) result }
-{
-    let id = region.id;
-    let arena = Object::Arena(id.place.arena);
-    match pool.give(seat, region) {
-        Went::Did(number, ()) => {
-            write(log, at(arena, number, Did::Give(id)));
-            StageStep::Done(Regrown::Has(capacity))
-        }
-        Went::Held(held, region) => StageStep::Held(held, Growing::Give(capacity, region)),
     }
 }

@@ -10,7 +10,7 @@ use pool_law::{Did, Note, Object, RefDid, RootId};
 use shared_pool::PoolSeat;
 
 /// Writes a note into a log that has room for it.
-pub fn write(log: &mut Vec<Note>, note: Note)
+pub fn write_note(log: &mut Vec<Note>, note: Note)
     requires { length log.old.items < vec_capacity log.old }
     ensures { HasWritten log.old log.new (note ∷ []) }
 {
@@ -18,7 +18,7 @@ pub fn write(log: &mut Vec<Note>, note: Note)
 }
 
 /// The note of what was done to an object.
-pub fn at(object: Object, number: u64, did: Did) -> Note
+pub fn note_at(object: Object, number: u64, did: Did) -> Note
     ensures { result ≡ At object number did }
 {
     Note::At {
@@ -29,7 +29,7 @@ pub fn at(object: Object, number: u64, did: Did) -> Note
 }
 
 /// The note of a step on the count of a root.
-pub fn to(root: RootId, did: RefDid) -> Note
+pub fn note_to(root: RootId, did: RefDid) -> Note
     ensures { result ≡ Ref root did }
 {
     Note::Ref { root, did }

@@ -6,7 +6,7 @@ ghost use Rattle.lane_stages.specs.Releasings.{AreUncounted, HasReleased, IsOver
 ghost use Rattle.lane_stages.specs.declared.releasing.Releasing.{Releasing};
 
 use crate::counts::OwnCounts;
-use crate::notes::{to, write};
+use crate::notes::{note_to, write_note};
 use crate::retirement::{Ending, end};
 use crate::stage_step::StageStep;
 use pool_law::{Note, Part, RefDid, RootId};
@@ -47,11 +47,11 @@ pub fn release(
     counts.take(root);
     match release {
         Release::Kept => {
-            write(log, to(root, RefDid::Kept));
+            write_note(log, note_to(root, RefDid::Kept));
             StageStep::More(ended_with(None, left))
         }
         Release::Ended(token) => {
-            write(log, to(root, RefDid::Ended));
+            write_note(log, note_to(root, RefDid::Ended));
             StageStep::More(ended_with(Some(Ending::Root(token)), left))
         }
     }

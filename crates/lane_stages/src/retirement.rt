@@ -6,7 +6,7 @@ ghost use Rattle.std.specs.Prelude.{◌+◌, ◌<◌, ◌≤◌, length, vec_cap
 ghost use Rattle.lane_stages.specs.declared.retirement.Ending.{Ending};
 ghost use Rattle.lane_stages.specs.Endings.{MayEnd, HasEnded, left_of};
 
-use crate::notes::{at, to, write};
+use crate::notes::{note_at, note_to, write_note};
 use crate::stage_step::StageStep;
 use handle_bin::Handle;
 use pool_law::{Did, Note, Object, RefDid, Region};
@@ -62,8 +62,11 @@ fn retire(
         region,
         handle,
     } = pool.retire(seat, token);
-    write(log, at(Object::Root(root.place), number, Did::End(root)));
-    write(log, to(root, RefDid::Vacated));
+    write_note(
+        log,
+        note_at(Object::Root(root.place), number, Did::End(root)),
+    );
+    write_note(log, note_to(root, RefDid::Vacated));
     if region.id.class < CACHED_CLASSES {
         StageStep::More(Ending::Cache(region, handle))
     } else {
@@ -90,15 +93,15 @@ fn put_away(
     };
     match pool.put_cached(seat, region) {
         Went::Did(number, Put::Kept) => {
-            write(log, at(cache, number, Did::Kept(id)));
+            write_note(log, note_at(cache, number, Did::Kept(id)));
             StageStep::More(Ending::Home(handle))
         }
         Went::Did(number, Put::Back(region, no)) => {
-            write(log, at(cache, number, Did::Back { region: id, no }));
+            write_note(log, note_at(cache, number, Did::Back { region: id, no }));
             StageStep::More(Ending::Arena(region, handle))
         }
         Went::Held(held, region) => {
-            write(log, Note::Busy(held));
+            write_note(log, Note::Busy(held));
             StageStep::More(Ending::Arena(region, handle))
         }
     }
@@ -120,7 +123,7 @@ fn give_back(
     let arena = Object::Arena(id.place.arena);
     match pool.give(seat, region) {
         Went::Did(number, ()) => {
-            write(log, at(arena, number, Did::Give(id)));
+            write_note(log, note_at(arena, number, Did::Give(id)));
             StageStep::More(Ending::Home(handle))
         }
         Went::Held(held, region) => StageStep::Held(held, Ending::Arena(region, handle)),
@@ -141,7 +144,7 @@ fn go_home(
     let place = handle.place();
     match pool.put_handle(seat, handle) {
         Went::Did(number, ()) => {
-            write(log, at(bin, number, Did::Home(place)));
+            write_note(log, note_at(bin, number, Did::Home(place)));
             StageStep::Done(())
         }
         Went::Held(held, handle) => StageStep::Held(held, Ending::Home(handle)),

@@ -5,43 +5,24 @@ use Rattle.std.proofs.lemmas.Bool.{cases_lt}
 use Rattle.pool_law.specs.Logs.{Logs}
 use Rattle.pool_law.proofs.HistoryLemmas.{log-past}
 use Rattle.log_order.specs.Playing.{steps_at, AreHeld, IsHeld, IsHeldBack, MovesOn, left_in}
-use Rattle.log_order.specs.declared.playing.Play.{Play}
-
--- no note is left that was not left before
-pub left-at-most : (logs : Logs) (old new : Play) (moved : Bool) (H : Type 0) → MovesOn logs old new moved H
-    → left_in logs new.next.items ≤ left_in logs old.next.items
-left-at-most logs old new true H m = omega (arith, m.1)
-left-at-most logs old new false H m = omega (arith, ap (left_in logs) m.1.next)
-
--- a play that moved on behind one that did or did not
-pub goes-on : (logs : Logs) (old mid new : Play) (moved : Bool) (H K L : Type 0) → MovesOn logs old mid moved H
-    → MovesOn logs mid new true K → MovesOn logs old new true L
-goes-on logs old mid new moved H K L m n = (n.0, omega (arith, n.1, left-at-most logs old mid moved H m))
+use Rattle.log_order.specs.declared.playing.Playing.{Playing}
 
 -- one that stays so behind one that did or did not
-pub stays-on : (logs : Logs) (old mid new : Play) (moved : Bool) (H K L : Type 0) → MovesOn logs old mid moved H
+pub stays-on : (logs : Logs) (old mid new : Playing) (moved : Bool) (H K L : Type 0) → MovesOn logs old mid moved H
     → MovesOn logs mid new false K → L → MovesOn logs old new moved L
 stays-on logs old mid new true H K L m n l = (n.0, omega (arith, m.1, ap (left_in logs) n.1.next))
 stays-on logs old mid new false H K L m n l =
     (n.0, record { next = n.1.next ∙ m.1.next; order = n.1.order ∙ m.1.order; holds = l })
 
--- one or the other
-pub follows : (logs : Logs) (old mid new : Play) (moved went : Bool) (H K L : Type 0) → MovesOn logs old mid moved H
-    → MovesOn logs mid new went K → L → MovesOn logs old new (moved || went) L
-follows logs old mid new true true H K L m n l = goes-on logs old mid new true H K L m n
-follows logs old mid new true false H K L m n l = stays-on logs old mid new true H K L m n l
-follows logs old mid new false true H K L m n l = goes-on logs old mid new false H K L m n
-follows logs old mid new false false H K L m n l = stays-on logs old mid new false H K L m n l
-
 -- a lane that could not go on still cannot
-pub held-stays : (logs : Logs) (old new : Play) (lane : ℕ) → new.next.items ≡ old.next.items
+pub held-stays : (logs : Logs) (old new : Playing) (lane : ℕ) → new.next.items ≡ old.next.items
     → new.order.items ≡ old.order.items → IsHeld logs old lane → IsHeld logs new lane
 held-stays logs old new lane next order held =
     subst (λ z. IsHeldBack logs new.next.items (steps_at logs z) lane) (sym order)
     (subst (λ z. IsHeldBack logs z (steps_at logs old.order.items) lane) (sym next) held)
 
 -- where there is no lane no note is left
-pub all-held : (logs : Logs) (play : Play) → AreHeld logs play → (lane : ℕ) → IsHeld logs play lane
+pub all-held : (logs : Logs) (play : Playing) → AreHeld logs play → (lane : ℕ) → IsHeld logs play lane
 all-held logs play held lane n at =
     ⊎_elim (λ low. held lane low n at)
     (λ high.

@@ -15,7 +15,7 @@ use Rattle.run_order.proofs.Turns.{notes-append}
 use Rattle.topo_order.proofs.Lists.{pushed}
 use Rattle.log_order.specs.Playing.{AllStand, step_by, step_at, steps_at, InOrder, AllFit, ArePlayed, IsSoFar, IsHeld, IsNext, IsOver, left_in}
 use Rattle.log_order.specs.Tallying.{Key, AreAtMost, AreCounted, count_in, counted, fits_in}
-use Rattle.log_order.specs.declared.playing.Play.{Play}
+use Rattle.log_order.specs.declared.playing.Playing.{Playing}
 use Rattle.log_order.specs.declared.spots.Spot.{Spot}
 use Rattle.log_order.specs.declared.tally.Tally.{Tally}
 use Rattle.log_order.proofs.TallyLemmas.{counts, counted-few, counted-more, fits-in}
@@ -124,7 +124,7 @@ steps-few logs (s ∷ spots) =
     omega (arith, here, rest, both)
 
 -- what was counted of so many notes
-pub tally-few : (logs : Logs) (play : Play) (n : ℕ) → IsSoFar logs play → length play.order.items < n
+pub tally-few : (logs : Logs) (play : Playing) (n : ℕ) → IsSoFar logs play → length play.order.items < n
     → AreAtMost (2 * n) play.tally
 tally-few logs play n so few key =
     let is = so.counted key in
@@ -133,7 +133,7 @@ tally-few logs play n so few key =
     omega (arith, is, counts, steps, few)
 
 -- one note more was played
-pub so-far-more : (logs : Logs) (old new : Play) (s : Spot) (n : Note) → IsSoFar logs old
+pub so-far-more : (logs : Logs) (old new : Playing) (s : Spot) (n : Note) → IsSoFar logs old
     → IsNext logs old.next.items s n → fits_in old.tally n ≡ true
     → new.next.items ≡ set old.next.items s.lane (s.at + 1) → new.order.items ≡ old.order.items ++ s ∷ []
     → ((key : Key) → count_in new.tally key ≡ count_in old.tally key + counts key n)
@@ -179,7 +179,7 @@ left-less (log ∷ logs) (k ∷ next) (suc lane) n lanes is =
     omega (arith, left-less logs next lane n (omega (arith, lanes)) is)
 
 -- a lane whose next note does not fit cannot go on
-pub held-unfit : (logs : Logs) (play : Play) (s : Spot) (lane : ℕ) (n : Note) → IsSoFar logs play
+pub held-unfit : (logs : Logs) (play : Playing) (s : Spot) (lane : ℕ) (n : Note) → IsSoFar logs play
     → s ≡ record { lane = lane; at = get_or play.next.items lane 0 } → StandsAt logs s.lane s.at n
     → fits_in play.tally n ≡ false → IsHeld logs play lane
 held-unfit logs play s lane n so same is none m at =
@@ -191,7 +191,7 @@ held-unfit logs play s lane n so same is none m at =
     (subst (λ z. Fits (steps_at logs play.order.items) z) (sym one) fits))
 
 -- a lane's next note was played
-pub lane-moved : (logs : Logs) (old new : Play) (s : Spot) (lane k : ℕ) (n : Note) → IsSoFar logs old
+pub lane-moved : (logs : Logs) (old new : Playing) (s : Spot) (lane k : ℕ) (n : Note) → IsSoFar logs old
     → s ≡ record { lane = lane; at = get_or old.next.items lane 0 } → lane < length old.next.items
     → StandsAt logs s.lane s.at n → fits_in old.tally n ≡ true → slice_get old.next.items lane ≡ Some k
     → new.next.items ≡ set old.next.items lane (k + 1) → new.order.items ≡ old.order.items ++ s ∷ []

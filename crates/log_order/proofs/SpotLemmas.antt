@@ -1,11 +1,9 @@
 -- Notes by their places.
-use Rattle.std.proofs.Common.{◌≡◌, ◌<◌, ℕ, List, [], ◌∷◌, suc, length, get_or, Some, refl, sym, ap, ◌∙◌}
+use Rattle.std.proofs.Common.{◌≡◌, ◌<◌, ℕ, List, [], ◌∷◌, suc, length, get_or, Some, refl, ap, ◌∙◌}
 use Rattle.std.specs.Prelude.{slice_get, option_map, unwrap_or}
 use Rattle.std.proofs.lemmas.Option.{slice_get_read, slice_get-map}
-use Rattle.pool_law.specs.declared.note.Note.{Note}
 use Rattle.pool_law.specs.declared.run.LaneLog.{LaneLog}
 use Rattle.pool_law.specs.Logs.{of_lane}
-use Rattle.pool_law.specs.Lives.{StandsAt}
 use Rattle.log_order.specs.Spots.{notes_in}
 
 -- the notes of a lane
@@ -15,13 +13,6 @@ lane-notes logs lane log low is =
     let got : slice_get logs lane ≡ Some log = slice_get_read logs (length logs) lane log refl low is in
     ap (λ o. unwrap_or o []) (slice_get-map (λ (l : LaneLog). l.notes) logs lane
     ∙ ap (option_map (λ (l : LaneLog). l.notes)) got)
-
-pub stands : (logs : List LaneLog) (lane at : ℕ) (log : LaneLog) (notes : List Note) (note : Note)
-    → lane < length logs → log ≡ get_or logs lane log → notes ≡ log.notes → at < length notes
-    → note ≡ get_or notes at note → StandsAt (notes_in logs) lane at note
-stands logs lane at log notes note low is same there read =
-    ap (λ ns. slice_get ns at) (lane-notes logs lane log low is ∙ sym same)
-    ∙ slice_get_read notes (length notes) at note refl there read
 
 -- there are as many logs
 pub as-many : (logs : List LaneLog) → length (notes_in logs) ≡ length logs

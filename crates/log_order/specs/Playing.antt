@@ -6,7 +6,7 @@ use Rattle.pool_law.specs.Lives.{StandsAt}
 use Rattle.run_order.specs.Order.{Step, notes_by, Fits, InOneOrder}
 use Rattle.log_order.specs.Precedence.{MustStandBefore}
 use Rattle.log_order.specs.Tallying.{AreCounted}
-use Rattle.log_order.specs.declared.playing.Play.{Play}
+use Rattle.log_order.specs.declared.playing.Playing.{Playing}
 use Rattle.log_order.specs.declared.spots.Spot.{Spot}
 
 -- a lane's step, if there is a note
@@ -82,18 +82,18 @@ pub record IsStuck (logs : Logs) (order : List Spot) : Type 0 where
   pub held : (lane : ℕ) → IsHeldBack logs next (steps_at logs order) lane
 
 -- the notes were played in the order that the program keeps, and counted
-pub record IsSoFar (logs : Logs) (play : Play) : Type 0 where
+pub record IsSoFar (logs : Logs) (play : Playing) : Type 0 where
   pub stand : AllStand logs play.order.items
   pub played : ArePlayed logs play.next.items (steps_at logs play.order.items)
   pub counted : AreCounted play.tally (steps_at logs play.order.items)
 
 -- a lane cannot go on
-abbrev pub IsHeld : Logs → Play → ℕ → Type 0
+abbrev pub IsHeld : Logs → Playing → ℕ → Type 0
 IsHeld logs play lane =
     IsHeldBack logs play.next.items (steps_at logs play.order.items) lane
 
 -- no lane can
-abbrev pub AreHeld : Logs → Play → Type 0
+abbrev pub AreHeld : Logs → Playing → Type 0
 AreHeld logs play = (lane : ℕ) → lane < length logs → IsHeld logs play lane
 
 -- how many notes of all lanes are left
@@ -103,13 +103,13 @@ left_in (log ∷ logs) [] = length log + left_in logs []
 left_in (log ∷ logs) (n ∷ next) = (length log - n) + left_in logs next
 
 -- the play stands as it stood, and this holds
-pub record StaysSo (old new : Play) (Holds : Type 0) : Type 0 where
+pub record StaysSo (old new : Playing) (Holds : Type 0) : Type 0 where
   pub next : new.next.items ≡ old.next.items
   pub order : new.order.items ≡ old.order.items
   pub holds : Holds
 
 -- the play moved on, or it stays so
-abbrev pub MovesOn : Logs → Play → Play → Bool → Type 0 → Type 0
+abbrev pub MovesOn : Logs → Playing → Playing → Bool → Type 0 → Type 0
 MovesOn logs old new moved Holds =
     IsSoFar logs new
     × (elim moved [

@@ -24,7 +24,7 @@ mod tally;
 
 use crate::graph::Graph;
 use crate::making::graph_of;
-use crate::playing::Play;
+use crate::playing::Playing;
 use pool_law::LaneLog;
 pub use spots::Spot;
 use std::alloc::{AllocError, Global};
@@ -47,7 +47,7 @@ fn judged(alloc: Global, logs: &[LaneLog], graph: &Graph) -> Result<OrderFound, 
     requires { IsWhole (notes_in logs.now) graph.now }
     ensures { IfOk result (λ told. Tells (notes_in logs.now) told) }
 {
-    let mut play = Play::new(alloc, logs)?;
+    let mut play = Playing::new(alloc, logs)?;
     play.play_on(logs, graph)?;
     if play.is_over(logs) {
         return Ok(OrderFound::Ordered(play.into_order()));

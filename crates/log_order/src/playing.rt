@@ -1,16 +1,18 @@
 //! Notes played one after another, as far as they go.
 
-ghost use Rattle.std.specs.Prelude.{◌≡◌, ◌<◌, ◌↔◌, ℕ, true, nat_lt, Some, length, get_or, slice_get, IfOk, IfSome, OnOk, IsTrue};
+ghost use Rattle.std.specs.Prelude.{◌≡◌, ◌<◌, ◌↔◌, ℕ, nat_lt, Some, length, get_or, slice_get, IfOk, IfSome, OnOk, IsTrue};
 ghost use Rattle.pool_law.specs.Logs.{Logs};
 ghost use Rattle.log_order.specs.Spots.{notes_in};
 ghost use Rattle.log_order.specs.Graphs.{AreNeeds, IsGraph};
 ghost use Rattle.log_order.specs.Playing.{IsSoFar, IsOver, IsHeld, IsLeft, MustWait, AreHeld, MovesOn};
 ghost use Rattle.log_order.specs.declared.playing.Eager.TheVariants.{Any};
 
+mod looks;
+
 use crate::graph::Graph;
 use crate::spots::{Spot, note_at};
 use crate::tally::Tally;
-use pool_law::{LaneLog, Note, RefDid};
+use pool_law::LaneLog;
 use std::alloc::{AllocError, Global};
 
 /// Which notes may be played: a step that changes a count may spoil what another lane is to look up.
@@ -26,19 +28,19 @@ pub(crate) enum Eager {
 
 /// What was played: how many notes of each lane, how many steps of each kind, and in which order.
 #[derive(Drop)]
-pub(crate) struct Play {
+pub(crate) struct Playing {
     next: Vec<usize>,
     tally: Tally,
     order: Vec<Spot>,
 }
 
-impl Play {
+impl Playing {
     /// Nothing was played.
-    pub(crate) fn new(alloc: Global, logs: &[LaneLog]) -> Result<Play, AllocError>
+    pub(crate) fn new(alloc: Global, logs: &[LaneLog]) -> Result<Playing, AllocError>
         ensures { IfOk result (λ play. IsSoFar (notes_in logs.now) play) }
     {
         let next = vec![in alloc; 0; logs.len()]?;
-        Ok(Play {
+        Ok(Playing {
             next,
             tally: Tally::new(alloc),
             order: Vec::new(alloc),
@@ -93,44 +95,6 @@ impl Play {
         };
         let left = self.first_left(graph, &graph.needs[node]);
         left.is_some()
-    }
-
-    // Whether a lane is to look up more counts than there are, or less.
-    fn looks_for(&self, note: &Note) -> Option<bool> {
-        let Note::Ref { root, did } = note else {
-            return None;
-        };
-        let RefDid::Look(found) = did else {
-            return None;
-        };
-        self.tally.has_less(root, *found)
-    }
-
-    // Whether a step on a count is one that no lane's next look speaks against.
-    fn helps(&self, logs: &[LaneLog], note: &Note) -> bool {
-        for lane in 0..self.next.len() {
-            let spot = Spot {
-                lane,
-                at: self.next[lane],
-            };
-            if let Some(other) = note_at(logs, &spot) {
-                if is_of_one_root(note, other) && self.looks_for(other) == Some(gives_up(note)) {
-                    return false;
-                }
-            }
-        }
-        true
-    }
-
-    // Whether a note may be played.
-    fn may_go(&self, logs: &[LaneLog], note: &Note, eager: Eager) -> bool
-        ensures { eager ≡ Any → result ≡ true }
-    {
-        match eager {
-            Eager::Quiet => !changes_count(note),
-            Eager::Helpful => self.helps(logs, note),
-            Eager::Any => true,
-        }
     }
 
     // Plays the next note of a lane, if it may, need not wait, and fits.
@@ -265,31 +229,4 @@ impl Play {
     {
         self.order
     }
-}
-
-// Whether a note changes the count of a root that lives on.
-fn changes_count(note: &Note) -> bool {
-    let Note::Ref { root: _, did } = note else {
-        return false;
-    };
-    matches!(did, RefDid::Retain | RefDid::Kept)
-}
-
-// Whether a note gives up a count.
-fn gives_up(note: &Note) -> bool {
-    let Note::Ref { root: _, did } = note else {
-        return false;
-    };
-    matches!(did, RefDid::Kept)
-}
-
-// Whether two notes are on the count of one root.
-fn is_of_one_root(note: &Note, other: &Note) -> bool {
-    let Note::Ref { root, did: _ } = note else {
-        return false;
-    };
-    let Note::Ref { root: r, did: _ } = other else {
-        return false;
-    };
-    root == r
 }

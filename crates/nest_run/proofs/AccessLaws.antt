@@ -25,7 +25,7 @@ use Rattle.nest_run.specs.declared.calls.Call.{Call}
 use Rattle.nest_run.specs.declared.calls.Call.TheVariants.{Set, Get}
 use Rattle.nest_run.specs.declared.replies.Reply.{Reply}
 use Rattle.nest_run.specs.declared.replies.Reply.TheVariants as replies
-use Rattle.nest_run.specs.declared.views.Play.{Play}
+use Rattle.nest_run.specs.declared.views.Playing.{Playing}
 use Rattle.nest_run.specs.Plays.{step}
 use Rattle.nest_run.specs.Standing.{log_of, Leave, IsWhole, HasBytes, stage_of, Stands, IsPlayed}
 use Rattle.nest_run.proofs.LogLaws.{whole_before, bytes_set, bytes_got, bytes_read, leave_same}
@@ -36,7 +36,7 @@ use Rattle.nest_run.proofs.OpenLaws.{works_less}
 
 -- ---- An access to the root's bytes.
 
-module _ (pool : SharedPool) (old new : Play) (st : Stands pool 1 old) (same : new.root ≡ old.root)
+module _ (pool : SharedPool) (old new : Playing) (st : Stands pool 1 old) (same : new.root ≡ old.root)
     (still : new.nest ≡ old.nest) (on : Proceeds pool empty_hand 1 0 no_change old.seat new.seat) (did : Did)
     (noted : (number : ℕ) × IsNoted pool old.seat new.seat (Object.Root old.root.place) number (access old.root did))
   where
@@ -95,18 +95,18 @@ found_at o x at n offset k e found =
     (ap (λ (r : ℕ × ℕ). r.0) is, ap (λ (r : ℕ × ℕ). r.1) is)
 
 -- the seat counts the root
-pub may_access : (pool : SharedPool) (old : Play) → Stands pool 1 old → 0 < root_counts old.nest
+pub may_access : (pool : SharedPool) (old : Playing) → Stands pool 1 old → 0 < root_counts old.nest
     → HasCount old.root (view_of old.seat)
 may_access pool old st some =
     subst (λ (r : RootId). HasCount r (view_of old.seat)) (sym st.root)
     (let a = st.counts in omega (arith, a, some))
 
 -- and has a turn
-pub may_work : (pool : SharedPool) (old : Play) → Stands pool 1 old → Works pool empty_hand 1 0 old.seat
+pub may_work : (pool : SharedPool) (old : Playing) → Stands pool 1 old → Works pool empty_hand 1 0 old.seat
 may_work pool old st = works_less pool empty_hand 4 1 1 0 old.seat st.works (omega arith) (omega arith)
 
 -- a range that was found lies in the root, and is as long as it was asked for
-pub found_inside : (pool : SharedPool) (old : Play) → Stands pool 1 old → (of at n offset k long : ℕ)
+pub found_inside : (pool : SharedPool) (old : Playing) → Stands pool 1 old → (of at n offset k long : ℕ)
     → range_no (held_view old.nest of) at n ≡ None → FoundAt (held_view old.nest of) at n offset k
     → offset + k ≤ old.nest.root.capacity → n ≡ min long (2 ^ 32 - 1)
     → (n ≡ long) × (offset + long ≤ old.root.capacity)
@@ -118,7 +118,7 @@ found_inside pool old st of at n offset k long range found inside short =
     let whole : n ≡ long = omega (arith, short, inside, size, small) in
     (whole, omega (arith, inside, size, whole, same))
 
-module _ (pool : SharedPool) (old new : Play) (st : Stands pool 1 old) (same : new.root ≡ old.root)
+module _ (pool : SharedPool) (old new : Playing) (st : Stands pool 1 old) (same : new.root ≡ old.root)
     (still : new.nest ≡ old.nest) (on : Proceeds pool empty_hand 1 0 no_change old.seat new.seat) where
   pub set_played : (of at n offset k : ℕ) (bytes : List ℕ)
       → (number : ℕ) × IsNoted pool old.seat new.seat (Object.Root old.root.place) number

@@ -1,20 +1,16 @@
 -- Calls that are played one after another.
-use Rattle.std.proofs.Common.{◌≡◌, ℕ, ◌+◌, ◌-◌, ◌<◌, ◌≤◌, List, [], ◌∷◌, ◌++◌, length, drop, get_or, replicate, refl, sym, ap, ◌∙◌, subst, arith, drop-cons, add-one, append-nil}
+use Rattle.std.proofs.Common.{◌≡◌, ℕ, ◌+◌, ◌-◌, ◌<◌, ◌≤◌, List, [], ◌∷◌, ◌++◌, length, drop, get_or, refl, sym, ap, ◌∙◌, subst, arith, drop-cons, add-one, append-nil}
 use Rattle.std.proofs.lemmas.List.{drop_all}
 use Rattle.pool_law.proofs.HistoryLemmas.{append-assoc}
 use Rattle.shared_pool.specs.declared.pool.SharedPool.{SharedPool}
-use Rattle.counted_view.specs.Nests.{new_nest, live_views}
 use Rattle.nest_run.specs.declared.calls.Call.{Call}
-use Rattle.nest_run.specs.declared.calls.Input.{Input}
-use Rattle.nest_run.specs.declared.play.Played.{Played}
 use Rattle.nest_run.specs.declared.replies.Reply.{Reply}
-use Rattle.nest_run.specs.declared.views.Play.{Play}
-use Rattle.nest_run.specs.Inputs.{call_limit}
-use Rattle.nest_run.specs.Plays.{Stage, first_stage, stage_after, replies_from}
-use Rattle.nest_run.specs.Standing.{log_of, IsWhole, stage_of, Stands, IsPlayed, HasGone, HasAnswered, IsBorn, HasPlayed}
+use Rattle.nest_run.specs.declared.views.Playing.{Playing}
+use Rattle.nest_run.specs.Plays.{Stage, stage_after, replies_from}
+use Rattle.nest_run.specs.Standing.{stage_of, Stands, IsPlayed, HasGone, HasAnswered}
 
 -- nothing was played yet
-pub gone_first : (pool : SharedPool) (calls : List Call) (p : Play) → Stands pool (length calls) p
+pub gone_first : (pool : SharedPool) (calls : List Call) (p : Playing) → Stands pool (length calls) p
     → HasGone pool calls 0 p [] p
 gone_first pool calls p stands = record {
   stands = subst (λ (n : ℕ). Stands pool n p) (omega arith) stands;
@@ -30,7 +26,8 @@ rest_at calls at call lt is =
     ∙ (λ i. sym is i ∷ drop (sym (add-one at) i) calls)
 
 -- one call more
-pub gone_on : (pool : SharedPool) (calls : List Call) (at : ℕ) (old mid new : Play) (answers : List Reply) (call : Call)
+pub gone_on : (pool : SharedPool) (calls : List Call) (at : ℕ) (old mid new : Playing) (answers : List Reply)
+    (call : Call)
     (reply : Reply) → at < length calls → call ≡ get_or calls at call → HasGone pool calls at old answers mid
     → IsPlayed pool call mid reply new → HasGone pool calls (at + 1) old (answers ++ reply ∷ []) new
 gone_on pool calls at old mid new answers call reply lt is gone played = record {
@@ -58,7 +55,7 @@ gone_on pool calls at old mid new answers call reply lt is gone played = record 
 }
 
 -- all calls
-pub gone_last : (pool : SharedPool) (calls : List Call) (at : ℕ) (old new : Play) (answers : List Reply)
+pub gone_last : (pool : SharedPool) (calls : List Call) (at : ℕ) (old new : Playing) (answers : List Reply)
     → length calls ≤ at → HasGone pool calls at old answers new → HasAnswered pool calls old answers new
 gone_last pool calls at old new answers le gone = record {
   stands = subst (λ (n : ℕ). Stands pool n new) (omega (arith, le)) gone.stands;
@@ -73,25 +70,3 @@ gone_last pool calls at old new answers le gone = record {
             ∙ ap (λ (s : Stage). s.nest) f.stage_is,
       ));
 }
-
--- what was played of an input
-pub has_played : (pool : SharedPool) (input : Input) (first last : Play) (played : Played)
-    → IsBorn pool input.capacity first.root first.seat → first.nest ≡ new_nest first.root call_limit
-    → HasAnswered pool input.calls first played.replies last → played.live ≡ live_views last.nest
-    → HasPlayed pool input played last.seat
-has_played pool input first last played born is answered live =
-    let stage = λ (w : IsWhole (log_of last.seat)).
-    let root = born.first (answered.whole w) in
-    let there : stage_of first.nest (replicate input.capacity 0) ≡ first_stage input.capacity =
-    (λ i. stage_of (is i) (replicate input.capacity 0))
-    ∙ (λ i. stage_of (new_nest (root i) call_limit) (replicate input.capacity 0)) in
-    there in
-    record {
-      works = answered.stands.works;
-      replies = λ w.
-          (answered.right w (replicate input.capacity 0) born.zeros).0
-          ∙ ap (λ (s : Stage). replies_from s input.calls) (stage w);
-      live = λ w.
-          live ∙ ap live_views ((answered.right w (replicate input.capacity 0) born.zeros).1
-          ∙ ap (λ (s : Stage). (stage_after s input.calls).nest) (stage w));
-    }

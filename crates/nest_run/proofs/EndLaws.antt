@@ -25,7 +25,7 @@ use Rattle.counted_view.specs.Nests.{NestState, after_call, held_view, root_coun
 use Rattle.counted_view.specs.NestSeats.{CountsRoot, IsReleasedIf}
 use Rattle.nest_run.specs.declared.calls.Call.TheVariants.{Release}
 use Rattle.nest_run.specs.declared.replies.Reply.TheVariants as replies
-use Rattle.nest_run.specs.declared.views.Play.{Play}
+use Rattle.nest_run.specs.declared.views.Playing.{Playing}
 use Rattle.nest_run.specs.Plays.{let_go, released}
 use Rattle.nest_run.specs.Standing.{log_of, dids_of, Leave, IsWhole, HasBytes, stage_of, Stands, IsPlayed, HasEnded, is_elsewhere}
 use Rattle.nest_run.proofs.LogLaws.{whole_before, bytes_kept, bytes_ended, leave_same}
@@ -100,7 +100,8 @@ end_bytes log root k first second bytes place e f =
     (bytes_kept (log ++ At (Object.Root 0) k (Did.End root) ∷ []) rest bytes (rest_quiet root first second e f)
     (bytes_ended log k root bytes)))
 
-module _ (pool : SharedPool) (old mid new : Play) (of count : ℕ) (st : Stands pool 1 old) (same : new.root ≡ old.root)
+module _ (pool : SharedPool) (old mid new : Playing) (of count : ℕ) (st : Stands pool 1 old)
+    (same : new.root ≡ old.root)
     (why : release_no (held_view old.nest of) ≡ None) (after : mid.nest ≡ after_call old.nest (accepted.Release of))
     (some : 0 < root_counts old.nest) (sum : count + live_slices mid.nest ≡ live_slices old.nest)
     (still : new.nest ≡ mid.nest) (seat : IsPoolSeat pool mid.seat) (counts : CountsRoot mid.nest mid.seat)

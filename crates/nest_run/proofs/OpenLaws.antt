@@ -34,7 +34,7 @@ use Rattle.seat_work.proofs.Holds.{holds_handle, is_handle}
 use Rattle.seat_work.proofs.Proceeding.{works_after}
 use Rattle.counted_view.specs.Nests.{NestedView, NestState, new_nest}
 use Rattle.nest_run.specs.declared.openings.TheConstants.{LAYOUT}
-use Rattle.nest_run.specs.declared.views.Play.{Play}
+use Rattle.nest_run.specs.declared.views.Playing.{Playing}
 use Rattle.nest_run.specs.Inputs.{capacity_limit, call_limit}
 use Rattle.nest_run.specs.Plays.{first_root}
 use Rattle.nest_run.specs.Standing.{log_of, dids_of, Leave, IsBorn, Stands, AreHeld}
@@ -156,7 +156,7 @@ module _ (pool : SharedPool) (layout : pool.layout ≡ LAYOUT)
         }
 
 -- the first moment of a play
-pub stands_first : (pool : SharedPool) (capacity calls : ℕ) (p : Play) → IsBorn pool capacity p.root p.seat
+pub stands_first : (pool : SharedPool) (capacity calls : ℕ) (p : Playing) → IsBorn pool capacity p.root p.seat
     → p.nest ≡ new_nest p.root call_limit → capacity ≤ capacity_limit → calls ≤ call_limit → Stands pool calls p
 stands_first pool capacity calls p born is small few =
     subst (λ (n : NestState). Stands pool calls (record { seat = p.seat; nest = n; root = p.root })) (sym is) (record {

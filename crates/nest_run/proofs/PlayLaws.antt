@@ -20,7 +20,7 @@ use Rattle.nest_run.specs.declared.calls.Call.{Call}
 use Rattle.nest_run.specs.declared.calls.Call.TheVariants.{Slice, Retain, Release}
 use Rattle.nest_run.specs.declared.replies.Reply.{Reply}
 use Rattle.nest_run.specs.declared.replies.Reply.TheVariants as replies
-use Rattle.nest_run.specs.declared.views.Play.{Play}
+use Rattle.nest_run.specs.declared.views.Playing.{Playing}
 use Rattle.nest_run.specs.Plays.{step, let_go, released}
 use Rattle.nest_run.specs.Standing.{log_of, Leave, IsWhole, HasBytes, stage_of, AreHeld, Stands, IsPlayed}
 use Rattle.nest_run.proofs.LogLaws.{whole_before, bytes_kept}
@@ -29,7 +29,7 @@ use Rattle.nest_run.proofs.SeatLogs.{Took, took, kept, ended}
 
 -- ---- What holds between two calls.
 
-module _ (pool : SharedPool) (old new : Play) (calls : ℕ) (st : Stands pool (calls + 1) old)
+module _ (pool : SharedPool) (old new : Playing) (calls : ℕ) (st : Stands pool (calls + 1) old)
     (goes : Goes pool empty_hand 4 1 old.seat new.seat) (counts : CountsRoot new.nest new.seat)
     (same : new.root ≡ old.root)
     (leave : Leave (log_of old.seat) old.nest.root (root_counts old.nest)
@@ -72,7 +72,7 @@ module _ (pool : SharedPool) (old new : Play) (calls : ℕ) (st : Stands pool (c
 
 -- ---- A call that took a count or left all.
 
-pub took_played : (pool : SharedPool) (call : Call) (old new : Play) (reply : Reply) (nested : NestCall)
+pub took_played : (pool : SharedPool) (call : Call) (old new : Playing) (reply : Reply) (nested : NestCall)
     → Took pool old.nest new.nest old.seat new.seat → CountsRoot new.nest new.seat → new.root ≡ old.root
     → new.nest ≡ after_call old.nest nested
     → (IsWhole (log_of new.seat) → (bytes : List ℕ)
@@ -90,12 +90,12 @@ took_played pool call old new reply nested t counts same is right = record {
 }
 
 -- the root is counted where its own view is
-counted_at_zero : (old : Play) (of : ℕ) → CountsRoot old.nest old.seat → IsSome (held_view old.nest of)
+counted_at_zero : (old : Playing) (of : ℕ) → CountsRoot old.nest old.seat → IsSome (held_view old.nest of)
     → (of == 0) ≡ true → HasCount old.nest.root (view_of old.seat)
 counted_at_zero old of counts held zero =
     HasCount-held old.nest old.nest.root old.seat of refl (eqb-true of 0 zero) held counts
 
-module _ (pool : SharedPool) (old new : Play) (st : Stands pool 1 old) (seat : IsPoolSeat pool new.seat)
+module _ (pool : SharedPool) (old new : Playing) (st : Stands pool 1 old) (seat : IsPoolSeat pool new.seat)
     (counts : CountsRoot new.nest new.seat) (same : new.root ≡ old.root) where
   pub slice_played : (of at len number : ℕ) → slice_no (has_all old.nest) (held_view old.nest of) at len ≡ None
       → number ≡ length old.nest.views → new.nest ≡ after_call old.nest (accepted.Slice of at len)
@@ -148,7 +148,7 @@ release_step n m of count root bytes why after sum zero =
     d.2 ∙ (λ i. (released n (sym after i), stage_of (sym after i) bytes))
     ∙ (λ i. (let_go (many i) (zero i), stage_of m bytes))
 
-module _ (pool : SharedPool) (old new : Play) (of count : ℕ) (st : Stands pool 1 old) (same : new.root ≡ old.root)
+module _ (pool : SharedPool) (old new : Playing) (of count : ℕ) (st : Stands pool 1 old) (same : new.root ≡ old.root)
     (why : release_no (held_view old.nest of) ≡ None) (after : new.nest ≡ after_call old.nest (accepted.Release of))
     (some : 0 < root_counts old.nest) (sum : count + live_slices new.nest ≡ live_slices old.nest) where
   pub kept_played : (lost : Bool) → IsPoolSeat pool new.seat → CountsRoot new.nest new.seat

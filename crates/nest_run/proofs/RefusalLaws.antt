@@ -13,13 +13,13 @@ use Rattle.counted_view.specs.Nests.{NestedView, after_call, held_view, has_all,
 use Rattle.nest_run.specs.declared.calls.Call.{Call}
 use Rattle.nest_run.specs.declared.calls.Call.TheVariants.{Slice, Retain, Release, Set, Get}
 use Rattle.nest_run.specs.declared.replies.Reply.TheVariants as replies
-use Rattle.nest_run.specs.declared.views.Play.{Play}
+use Rattle.nest_run.specs.declared.views.Playing.{Playing}
 use Rattle.nest_run.specs.Plays.{step, released}
 use Rattle.nest_run.specs.Standing.{stage_of, Stands, IsPlayed, refusal}
 use Rattle.nest_run.proofs.StepLaws.{view_refused, range_refused, release_not_full, range_not_full, slice_is_range, retain_is_release}
 
 -- with fewer calls to come
-pub stands_fewer : (pool : SharedPool) (p : Play) (n m : ℕ) → m ≤ n → Stands pool n p → Stands pool m p
+pub stands_fewer : (pool : SharedPool) (p : Playing) (n m : ℕ) → m ≤ n → Stands pool n p → Stands pool m p
 stands_fewer pool p n m le st = record {
   works = record {
     seat = st.works.seat;
@@ -42,11 +42,11 @@ stands_fewer pool p n m le st = record {
 
 -- ---- A call that is refused.
 
-pub refused_played : (pool : SharedPool) (call : Call) (old new : Play) (why : NestNo) → new ≡ old
+pub refused_played : (pool : SharedPool) (call : Call) (old new : Playing) (why : NestNo) → new ≡ old
     → ((bytes : List ℕ) → step (stage_of old.nest bytes) call ≡ (refusal why, stage_of old.nest bytes))
     → IsPlayed pool call old (refusal why) new
 refused_played pool call old new why same is =
-    subst (λ (p : Play). IsPlayed pool call old (refusal why) p) (sym same) (record {
+    subst (λ (p : Playing). IsPlayed pool call old (refusal why) p) (sym same) (record {
       next = λ calls st. stands_fewer pool old (calls + 1) calls (omega arith) st;
       whole = λ w. w;
       right = λ w bytes has. record { then_bytes = bytes; step_is = is bytes; has = has };
@@ -54,7 +54,7 @@ refused_played pool call old new why same is =
 
 -- ---- Refusals, by what the nest answers.
 
-module _ (pool : SharedPool) (old : Play) (st : Stands pool 1 old) where
+module _ (pool : SharedPool) (old : Playing) (st : Stands pool 1 old) where
   slice_as : (of at len : ℕ) (why : NestNo) → slice_no (has_all old.nest) (held_view old.nest of) at len ≡ Some why
       → range_no (held_view old.nest of) at len ≡ Some why
   slice_as of at len why e =
@@ -72,7 +72,7 @@ module _ (pool : SharedPool) (old : Play) (st : Stands pool 1 old) where
   pub retain_may : (of : ℕ) (why : NestNo) → retain_no (held_view old.nest of) ≡ Some why → why ≢ Full
   retain_may of why e = release_not_full (held_view old.nest of) why (retain_as of why e)
 
-  pub slice_refused : (new : Play) (of at len : ℕ) (why : NestNo) → new ≡ old
+  pub slice_refused : (new : Playing) (of at len : ℕ) (why : NestNo) → new ≡ old
       → slice_no (has_all old.nest) (held_view old.nest of) at len ≡ Some why
       → IsPlayed pool (Slice of at len) old (refusal why) new
   slice_refused new of at len why same e =
@@ -81,14 +81,14 @@ module _ (pool : SharedPool) (old : Play) (st : Stands pool 1 old) where
       (λ x. (replies.Sliced (length old.nest.views), stage_of (after_call old.nest (accepted.Slice of at len)) bytes))
       why (slice_as of at len why e))
 
-  pub retain_refused : (new : Play) (of : ℕ) (why : NestNo) → new ≡ old
+  pub retain_refused : (new : Playing) (of : ℕ) (why : NestNo) → new ≡ old
       → retain_no (held_view old.nest of) ≡ Some why → IsPlayed pool (Retain of) old (refusal why) new
   retain_refused new of why same e =
       refused_played pool (Retain of) old new why same (λ bytes.
       view_refused (stage_of old.nest bytes) (held_view old.nest of)
       (λ x. (replies.Done, stage_of (after_call old.nest (accepted.Retain of)) bytes)) why (retain_as of why e))
 
-pub release_refused : (pool : SharedPool) (old new : Play) (of : ℕ) (why : NestNo) → new ≡ old
+pub release_refused : (pool : SharedPool) (old new : Playing) (of : ℕ) (why : NestNo) → new ≡ old
     → release_no (held_view old.nest of) ≡ Some why → IsPlayed pool (Release of) old (refusal why) new
 release_refused pool old new of why same e =
     refused_played pool (Release of) old new why same (λ bytes.
@@ -97,7 +97,7 @@ release_refused pool old new of why same e =
       stage_of (after_call old.nest (accepted.Release of)) bytes,
     )) why e)
 
-pub set_refused : (pool : SharedPool) (old new : Play) (of at : ℕ) (bytes : List ℕ) (why : NestNo) → new ≡ old
+pub set_refused : (pool : SharedPool) (old new : Playing) (of at : ℕ) (bytes : List ℕ) (why : NestNo) → new ≡ old
     → range_no (held_view old.nest of) at (length bytes) ≡ Some why
     → IsPlayed pool (Set of at bytes) old (refusal why) new
 set_refused pool old new of at bytes why same e =
@@ -105,7 +105,7 @@ set_refused pool old new of at bytes why same e =
     range_refused (stage_of old.nest there) (held_view old.nest of) at (length bytes)
     (λ x. (replies.Done, stage_of old.nest (laid_over there (root_index x.at at) bytes))) why e)
 
-pub get_refused : (pool : SharedPool) (old new : Play) (of at len : ℕ) (why : NestNo) → new ≡ old
+pub get_refused : (pool : SharedPool) (old new : Playing) (of at len : ℕ) (why : NestNo) → new ≡ old
     → range_no (held_view old.nest of) at len ≡ Some why → IsPlayed pool (Get of at len) old (refusal why) new
 get_refused pool old new of at len why same e =
     refused_played pool (Get of at len) old new why same (λ there.

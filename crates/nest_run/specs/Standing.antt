@@ -28,7 +28,7 @@ use Rattle.nest_run.specs.declared.calls.Input.{Input}
 use Rattle.nest_run.specs.declared.replies.Reply.{Reply}
 use Rattle.nest_run.specs.declared.replies.Reply.TheVariants as replies
 use Rattle.nest_run.specs.declared.play.Played.{Played}
-use Rattle.nest_run.specs.declared.views.Play.{Play}
+use Rattle.nest_run.specs.declared.views.Playing.{Playing}
 use Rattle.nest_run.specs.Inputs.{capacity_limit, call_limit}
 use Rattle.nest_run.specs.Plays.{Stage, first_root, step, stage_after, replies_from, replies_to, live_after}
 
@@ -78,7 +78,7 @@ AreHeld most views =
     (v : ℕ) (x : NestedView) → slice_get views v ≡ Some x → x.holds ≤ most
 
 -- the seat can play so many calls more, and counts the root as often as the nest does
-pub record Stands (pool : SharedPool) (calls : ℕ) (p : Play) : Type 0 where
+pub record Stands (pool : SharedPool) (calls : ℕ) (p : Playing) : Type 0 where
   pub works : Works pool empty_hand (4 * calls) calls p.seat
   pub counts : CountsRoot p.nest p.seat
   pub root : p.root ≡ p.nest.root
@@ -92,14 +92,14 @@ pub record Stands (pool : SharedPool) (calls : ℕ) (p : Play) : Type 0 where
   pub leave : Leave (log_of p.seat) p.nest.root (root_counts p.nest)
 
 -- the reply is right, and so are the nest and the bytes from then on
-pub record IsRight (call : Call) (old : Play) (reply : Reply) (new : Play) (bytes : List ℕ) :
+pub record IsRight (call : Call) (old : Playing) (reply : Reply) (new : Playing) (bytes : List ℕ) :
     Type 0 where
   pub then_bytes : List ℕ
   pub step_is : step (stage_of old.nest bytes) call ≡ (reply, stage_of new.nest then_bytes)
   pub has : HasBytes (log_of new.seat) then_bytes
 
 -- a call was played: it is right, if the notes turn out to be whole
-pub record IsPlayed (pool : SharedPool) (call : Call) (old : Play) (reply : Reply) (new : Play) :
+pub record IsPlayed (pool : SharedPool) (call : Call) (old : Playing) (reply : Reply) (new : Playing) :
     Type 0 where
   pub next : (calls : ℕ) → Stands pool (calls + 1) old → Stands pool calls new
   pub whole : IsWhole (log_of new.seat) → IsWhole (log_of old.seat)
@@ -108,7 +108,7 @@ pub record IsPlayed (pool : SharedPool) (call : Call) (old : Play) (reply : Repl
 
 -- the calls before a place in the list were played: what is left comes to what all come to
 pub record IsSoFar
-    (calls : List Call) (at : ℕ) (old : Play) (answers : List Reply) (new : Play)
+    (calls : List Call) (at : ℕ) (old : Playing) (answers : List Reply) (new : Playing)
     (bytes : List ℕ) : Type 0 where
   pub then_bytes : List ℕ
   pub has : HasBytes (log_of new.seat) then_bytes
@@ -118,8 +118,8 @@ pub record IsSoFar
       ≡ stage_after (stage_of old.nest bytes) calls
 
 pub record HasGone
-    (pool : SharedPool) (calls : List Call) (at : ℕ) (old : Play) (answers : List Reply)
-    (new : Play) : Type 0 where
+    (pool : SharedPool) (calls : List Call) (at : ℕ) (old : Playing) (answers : List Reply)
+    (new : Playing) : Type 0 where
   pub stands : Stands pool (length calls - at) new
   pub whole : IsWhole (log_of new.seat) → IsWhole (log_of old.seat)
   pub right : IsWhole (log_of new.seat) → (bytes : List ℕ) → HasBytes (log_of old.seat) bytes →
@@ -127,7 +127,7 @@ pub record HasGone
 
 -- calls were played one after another: all is right, if the notes turn out to be whole
 pub record HasAnswered
-    (pool : SharedPool) (calls : List Call) (old : Play) (answers : List Reply) (new : Play) :
+    (pool : SharedPool) (calls : List Call) (old : Playing) (answers : List Reply) (new : Playing) :
     Type 0 where
   pub stands : Stands pool 0 new
   pub whole : IsWhole (log_of new.seat) → IsWhole (log_of old.seat)

@@ -12,7 +12,7 @@ use crate::calls::{Call, Input};
 use crate::openings::{bear, open};
 use crate::reading::CALL_LIMIT;
 use crate::replies::{Reply, ReplyList};
-use crate::views::Play;
+use crate::views::Playing;
 use counted_view::Nest;
 use shared_pool::{PoolSeat, SharedPool};
 use std::alloc::{AllocError, Global};
@@ -69,9 +69,9 @@ fn play_in<W: Wait>(
     let Ok(nest) = Nest::new(alloc, root, CALL_LIMIT) else {
         return (seat, None);
     };
-    let mut play = Play { seat, nest, root };
+    let mut play = Playing { seat, nest, root };
     let replies = play_all(rt, alloc, pool, &mut play, input.calls.items());
-    let Play {
+    let Playing {
         seat,
         nest,
         root: _,
@@ -88,7 +88,7 @@ fn play_all<W: Wait>(
     rt: &W,
     alloc: Global,
     pool: &SharedPool,
-    play: &mut Play,
+    play: &mut Playing,
     calls: &[Call],
 ) -> Result<ReplyList, AllocError>
     requires { Stands pool.now (length calls.now) play.old }

@@ -15,13 +15,13 @@ use std::sync::Wait;
 
 /// A nest over a root of a pool, and the seat that counts the root as often as the nest does. It
 /// must be spent.
-pub struct Play {
+pub struct Playing {
     pub seat: PoolSeat,
     pub nest: Nest,
     pub root: RootId,
 }
 
-impl Play {
+impl Playing {
     /// The reply to a call. Err is want of memory for the bytes that it reads; then nothing is done.
     pub fn answer<W: Wait>(
         &mut self,

@@ -12,7 +12,7 @@ use Rattle.pool_law.specs.Arenas.{Arena, chunk_at, front_of}
 use Rattle.pool_chunk.specs.ChunkStates.{with_elements, HasSubpage, IsElementOut}
 use Rattle.chunk_list.specs.Listing.{Listing}
 use Rattle.pool_arena.specs.Places.{PlaceState, runs_of, state_of, with_chunk}
-use Rattle.pool_arena.specs.Fronts.{FrontState}
+use Rattle.pool_arena.specs.SubpageLists.{SubpagesState}
 use Rattle.pool_arena.specs.Stocks.{StockState, arena_with, arena_in, Becomes, IsElementOutOf, element_back}
 use Rattle.pool_arena.specs.Held.{stock_in, IsStock}
 use Rattle.pool_arena.specs.declared.stock.ChunkStock.TheInside.{Inside}
@@ -66,7 +66,7 @@ out-element s is class c page index piece x o found =
     }
 
 -- there is room for a subpage that was full
-pub back-room : (s : Inside) (is : IsStock s) (class c page index : ℕ) (piece : Segment) (f : FrontState)
+pub back-room : (s : Inside) (is : IsStock s) (class c page index : ℕ) (piece : Segment) (f : SubpagesState)
     → IsElementOutOf (stock_in s) class c page index piece
     → slice_get s.fronts.items class ≡ Some f → is_small s.classes class ≡ true
     → (o : IsElementOutOf (stock_in s) class c page index piece) → is_full o.elements ≡ true
@@ -84,12 +84,12 @@ abbrev pub fronts_back : StockState → ℕ → ℕ → ℕ → Elements → Lis
 fronts_back s class c page e =
     if is_full e then slice_set s.fronts class ((c, page) ∷ front_of (arena_in s) class) else s.fronts
 
-pub full-back : (s : Inside) (class c page : ℕ) (e : Elements) (f h : FrontState) (items : List FrontState)
+pub full-back : (s : Inside) (class c page : ℕ) (e : Elements) (f h : SubpagesState) (items : List SubpagesState)
     → slice_get s.fronts.items class ≡ Some f
     → h.spots ≡ (c, page) ∷ f.spots → items ≡ slice_set s.fronts.items class h → is_full e ≡ true
-    → map (λ (z : FrontState). z.spots) items ≡ fronts_back (stock_in s) class c page e
+    → map (λ (z : SubpagesState). z.spots) items ≡ fronts_back (stock_in s) class c page e
 full-back s class c page e f h items found entered is full =
-    ap (map (λ (z : FrontState). z.spots)) is ∙ spots-set s.fronts.items class h
+    ap (map (λ (z : SubpagesState). z.spots)) is ∙ spots-set s.fronts.items class h
     ∙ ap (slice_set (stock_in s).fronts class)
     (entered ∙ ap (λ (xs : List (ℕ × ℕ)). (c, page) ∷ xs) (sym (front_of-is s class f found)))
     ∙ sym (ap (λ (b : Bool). if b then slice_set (stock_in s).fronts class

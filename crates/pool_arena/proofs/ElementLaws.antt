@@ -16,7 +16,7 @@ use Rattle.pool_chunk.specs.ChunkStates.{with_elements, HasSubpage}
 use Rattle.chunk_list.specs.Listing.{Listing}
 use Rattle.chunk_list.specs.Settling.{IsWithin}
 use Rattle.pool_arena.specs.Places.{PlaceState, runs_of, state_of, with_chunk, HandsOut}
-use Rattle.pool_arena.specs.Fronts.{FrontState}
+use Rattle.pool_arena.specs.SubpageLists.{SubpagesState}
 use Rattle.pool_arena.specs.Stocks.{StockState, arena_with, arena_in, IsOpen, GivesPlace}
 use Rattle.pool_arena.specs.Held.{stock_in, HasRoomAt, IsStock}
 use Rattle.pool_arena.specs.declared.stock.ChunkStock.TheInside.{Inside}
@@ -173,12 +173,12 @@ fronts_after s class c page e =
     if is_full e then slice_set s.fronts class (without_spot c page (front_of (arena_in s) class)) else s.fronts
 
 -- a full subpage leaves its front, and another stays
-pub full-fronts : (s : Inside) (class c page : ℕ) (e : Elements) (f h : FrontState) (items : List FrontState)
+pub full-fronts : (s : Inside) (class c page : ℕ) (e : Elements) (f h : SubpagesState) (items : List SubpagesState)
     → slice_get s.fronts.items class ≡ Some f
     → h.spots ≡ without_spot c page f.spots → items ≡ slice_set s.fronts.items class h → is_full e ≡ true
-    → map (λ (z : FrontState). z.spots) items ≡ fronts_after (stock_in s) class c page e
+    → map (λ (z : SubpagesState). z.spots) items ≡ fronts_after (stock_in s) class c page e
 full-fronts s class c page e f h items found left is full =
-    ap (map (λ (z : FrontState). z.spots)) is ∙ spots-set s.fronts.items class h
+    ap (map (λ (z : SubpagesState). z.spots)) is ∙ spots-set s.fronts.items class h
     ∙ ap (slice_set (stock_in s).fronts class) (left ∙ ap (without_spot c page) (sym (front_of-is s class f found)))
     ∙ sym (ap (λ (b : Bool). if b then slice_set (stock_in s).fronts class
     (without_spot c page (front_of (arena_in (stock_in s)) class)) else (stock_in s).fronts) full)

@@ -3,8 +3,8 @@ use Rattle.std.proofs.Common.{◌≡◌, ℕ, List, [], ◌∷◌, refl, ap, Boo
 use Rattle.std.specs.Prelude.{not, ◌==◌, ◌&&◌, map, filter, if◌then◌else◌}
 use Rattle.std.proofs.lemmas.Bool.{cond_both}
 use Rattle.pool_law.specs.Arenas.{without_spot}
-use Rattle.pool_arena.specs.declared.front.SubpageAt.{SubpageAt}
-use Rattle.pool_arena.specs.Fronts.{pair_of}
+use Rattle.pool_arena.specs.declared.subpage_list.SubpageAt.{SubpageAt}
+use Rattle.pool_arena.specs.SubpageLists.{pair_of}
 
 -- whether a subpage is another than this one
 abbrev pub is_other : ℕ → ℕ → SubpageAt → Bool

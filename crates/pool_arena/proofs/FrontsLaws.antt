@@ -10,50 +10,50 @@ use Rattle.size_classes.specs.Sizes.{Geometry, chunk_pages, class_count, is_smal
 use Rattle.pool_law.specs.Arenas.{front_of, with_subpage}
 use Rattle.pool_law.proofs.ListLemmas.{slice_get-set_same, slice_get-set_other, slice_get-below}
 use Rattle.arena_laws.proofs.ChunkSteps.{same_or-not}
-use Rattle.pool_arena.specs.Fronts.{FrontState, with_spots}
+use Rattle.pool_arena.specs.SubpageLists.{SubpagesState, with_spots}
 use Rattle.pool_arena.specs.Stocks.{StockState, arena_in, Becomes}
 use Rattle.pool_arena.specs.Held.{stock_in, HasRoomAt, IsStock}
 use Rattle.pool_arena.specs.declared.stock.ChunkStock.TheInside.{Inside}
 
 -- the subpages of a class
-pub front_of-is : (s : Inside) (class : ℕ) (f : FrontState) → slice_get s.fronts.items class ≡ Some f
+pub front_of-is : (s : Inside) (class : ℕ) (f : SubpagesState) → slice_get s.fronts.items class ≡ Some f
     → front_of (arena_in (stock_in s)) class ≡ f.spots
 front_of-is s class f found =
-    ap (λ o. unwrap_or o []) (slice_get-map (λ (h : FrontState). h.spots) s.fronts.items class
-    ∙ ap (option_map (λ (h : FrontState). h.spots)) found)
+    ap (λ o. unwrap_or o []) (slice_get-map (λ (h : SubpagesState). h.spots) s.fronts.items class
+    ∙ ap (option_map (λ (h : SubpagesState). h.spots)) found)
 
 -- a front with other subpages leaves the others room
-pub rooms-set : (pages : ℕ) (g : Geometry) (fs : List FrontState) (class : ℕ) (f h : FrontState) → HasRoomAt pages g fs
-    → slice_get fs class ≡ Some f → h.room ≡ f.room
+pub rooms-set : (pages : ℕ) (g : Geometry) (fs : List SubpagesState) (class : ℕ) (f h : SubpagesState)
+    → HasRoomAt pages g fs → slice_get fs class ≡ Some f → h.room ≡ f.room
     → HasRoomAt pages g (slice_set fs class h)
 rooms-set pages g fs class f h has found same =
     record { count = length-set fs class h ∙ has.count; room = λ k x small at. by k x small at (same_or-not k class) }
   where
-    here : (x : FrontState) → slice_get (slice_set fs class h) class ≡ Some x → h ≡ x
+    here : (x : SubpagesState) → slice_get (slice_set fs class h) class ≡ Some x → h ≡ x
     here x at =
-        let both : ◌≡◌ {A = Option FrontState} (Some h) (Some x) =
+        let both : ◌≡◌ {A = Option SubpagesState} (Some h) (Some x) =
         sym (slice_get-set_same fs class h (slice_get-below fs class f found)) ∙ at in
         cc both
 
-    by : (k : ℕ) (x : FrontState) → is_small g k ≡ true → slice_get (slice_set fs class h) k ≡ Some x
+    by : (k : ℕ) (x : SubpagesState) → is_small g k ≡ true → slice_get (slice_set fs class h) k ≡ Some x
         → (k ≡ class) ⊎ (k ≢ class) → pages ≤ x.room
     by k x small at (inl e) =
         let found_k = subst (λ n. slice_get fs n ≡ Some f) (sym e) found in
         let is = here x (subst (λ n. slice_get (slice_set fs class h) n ≡ Some x) e at) in
-        let room : h.room ≡ x.room = ap (λ (y : FrontState). y.room) is in
+        let room : h.room ≡ x.room = ap (λ (y : SubpagesState). y.room) is in
         omega (arith, has.room k f small found_k, room, same)
     by k x small at (inr ne) = has.room k x small (sym (slice_get-set_other fs class k h ne) ∙ at)
 
-pub spots-set : (fs : List FrontState) (class : ℕ) (h : FrontState)
-    → map (λ (f : FrontState). f.spots) (slice_set fs class h)
-    ≡ slice_set (map (λ (f : FrontState). f.spots) fs) class h.spots
-spots-set fs class h = map-set (λ (f : FrontState). f.spots) fs class h
+pub spots-set : (fs : List SubpagesState) (class : ℕ) (h : SubpagesState)
+    → map (λ (f : SubpagesState). f.spots) (slice_set fs class h)
+    ≡ slice_set (map (λ (f : SubpagesState). f.spots) fs) class h.spots
+spots-set fs class h = map-set (λ (f : SubpagesState). f.spots) fs class h
 
 -- an arena with other fronts
-abbrev pub with_fronts : Inside → Vec FrontState Global → Inside
+abbrev pub with_fronts : Inside → Vec SubpagesState Global → Inside
 with_fronts s v = record { classes = s.classes; page = s.page; places = s.places; lists = s.lists; fronts = v }
 
-pub fronts-held : (s : Inside) (v : Vec FrontState Global) → IsStock s
+pub fronts-held : (s : Inside) (v : Vec SubpagesState Global) → IsStock s
     → HasRoomAt (length s.places.items * chunk_pages s.classes) s.classes v.items → IsStock (with_fronts s v)
 fronts-held s v is rooms =
     record {
@@ -69,7 +69,7 @@ fronts-held s v is rooms =
     }
 
 -- a class has a front
-pub front-found : (s : Inside) (is : IsStock s) (g : Geometry) (class : ℕ) (f : FrontState) → s.classes ≡ g
+pub front-found : (s : Inside) (is : IsStock s) (g : Geometry) (class : ℕ) (f : SubpagesState) → s.classes ≡ g
     → class < class_count g → f ≡ get_or s.fronts.items class f
     → slice_get s.fronts.items class ≡ Some f
 front-found s is g class f same less here =
@@ -81,7 +81,7 @@ pub front-index : (s : Inside) (is : IsStock s) (g : Geometry) (class : ℕ) →
 front-index s is g class same less = omega (arith, is.fronts.count, ap class_count same, less, s.fronts.ok.0)
 
 -- the subpages of a class, as a caller sees them
-pub front-seen : (s : Inside) (v : StockState) (class : ℕ) (f : FrontState) → IsStock s → stock_in s ≡ v
+pub front-seen : (s : Inside) (v : StockState) (class : ℕ) (f : SubpagesState) → IsStock s → stock_in s ≡ v
     → class < class_count v.geometry → f ≡ get_or s.fronts.items class f
     → front_of (arena_in v) class ≡ f.spots
 front-seen s v class f is same less here =
@@ -89,7 +89,7 @@ front-seen s v class f is same less here =
     ∙ front_of-is s class f (front-found s is v.geometry class f (ap (λ (w : StockState). w.geometry) same) less here)
 
 -- a front without a subpage has room for one
-pub front-room : (s : Inside) (is : IsStock s) (class : ℕ) (f : FrontState) → slice_get s.fronts.items class ≡ Some f
+pub front-room : (s : Inside) (is : IsStock s) (class : ℕ) (f : SubpagesState) → slice_get s.fronts.items class ≡ Some f
     → is_small s.classes class ≡ true
     → front_of (arena_in (stock_in s)) class ≡ [] → length f.spots < f.room
 front-room s is class f found small none =
@@ -99,7 +99,7 @@ front-room s is class f found small none =
     omega (arith, empty, room, places, is.few.0)
 
 -- a subpage that enters is the front
-pub enter-law : (s : Inside) (class chunk page : ℕ) (f h : FrontState) (v : Vec FrontState Global)
+pub enter-law : (s : Inside) (class chunk page : ℕ) (f h : SubpagesState) (v : Vec SubpagesState Global)
     → slice_get s.fronts.items class ≡ Some f
     → h ≡ with_spots f ((chunk, page) ∷ f.spots) → v.items ≡ slice_set s.fronts.items class h
     → Becomes (stock_in s) (λ a. with_subpage class (chunk, page, a)) (stock_in (with_fronts s v))
@@ -111,8 +111,8 @@ enter-law s class chunk page f h v found is items =
         fronts =
             (ap (λ (spots : List (ℕ × ℕ)). slice_set (stock_in s).fronts class ((chunk, page) ∷ spots))
             (front_of-is s class f found)
-            ∙ ap (λ (x : FrontState). slice_set (stock_in s).fronts class x.spots) (sym is)
-            ∙ sym (ap (map (λ (x : FrontState). x.spots)) items ∙ spots-set s.fronts.items class h)) i;
+            ∙ ap (λ (x : SubpagesState). slice_set (stock_in s).fronts class x.spots) (sym is)
+            ∙ sym (ap (map (λ (x : SubpagesState). x.spots)) items ∙ spots-set s.fronts.items class h)) i;
         takings = takings;
         out = out;
       };

@@ -21,5 +21,3 @@ pub mod RoomLaws
 pub mod SmallGiveLaws
 pub mod NewStockLaws
 pub mod RestLaws
-pub mod OutLaws
-pub mod TrialLaws

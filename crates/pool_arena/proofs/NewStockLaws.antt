@@ -12,7 +12,7 @@ use Rattle.pool_law.proofs.NumberLemmas.{length-below}
 use Rattle.arena_laws.proofs.ListSteps.{nowhere}
 use Rattle.chunk_list.specs.Listing.{Listing, new_listing}
 use Rattle.pool_arena.specs.Places.{PlaceState}
-use Rattle.pool_arena.specs.Fronts.{FrontState}
+use Rattle.pool_arena.specs.SubpageLists.{SubpagesState}
 use Rattle.pool_arena.specs.Stocks.{arena_in}
 use Rattle.pool_arena.specs.Held.{stock_in, front_for, HasRoomAt, IsStock}
 use Rattle.pool_arena.specs.declared.stock.ChunkStock.TheInside.{Inside}
@@ -51,12 +51,12 @@ below-at (suc n) k d less = by (last-or k n less) (below-at n k d)
         let at : k ≡ length (below n) = e ∙ sym (length-below n) in
         ap (λ (j : ℕ). get_or (below n ++ n ∷ []) j d) at ∙ get_or-append_seam (below n) n [] d ∙ sym e
 
-no-spots : (g : Geometry) (room n : ℕ) → map (λ (f : FrontState). f.spots) (map (front_for g room) (below n))
+no-spots : (g : Geometry) (room n : ℕ) → map (λ (f : SubpagesState). f.spots) (map (front_for g room) (below n))
     ≡ replicate n []
 no-spots g room zero = refl
 no-spots g room (suc n) =
-    ap (map (λ (f : FrontState). f.spots)) (map-append (front_for g room) (below n) (n ∷ []))
-    ∙ map-append (λ (f : FrontState). f.spots) (map (front_for g room) (below n)) (front_for g room n ∷ [])
+    ap (map (λ (f : SubpagesState). f.spots)) (map-append (front_for g room) (below n) (n ∷ []))
+    ∙ map-append (λ (f : SubpagesState). f.spots) (map (front_for g room) (below n)) (front_for g room n ∷ [])
     ∙ ap (λ (xs : List (List (ℕ × ℕ))). xs ++ [] ∷ []) (no-spots g room n)
     ∙ replicate-append-replicate n 1 [] ∙ ap (λ (k : ℕ). replicate k []) (add-one n)
 
@@ -79,10 +79,10 @@ new-rooms g room =
           ∙ ap (option_map (front_for g room))
           (slice_get-get_or (below (class_count g)) class 0 (omega (arith, length-below (class_count g), less))
           ∙ ap Some (below-at (class_count g) class 0 less)) in
-          let both : ◌≡◌ {A = Option FrontState} (Some (front_for g room class)) (Some f) = sym here ∙ at in
+          let both : ◌≡◌ {A = Option SubpagesState} (Some (front_for g room class)) (Some f) = sym here ∙ at in
           let same : front_for g room class ≡ f = cc both in
           let rooms : (if is_small g class then room else 0) ≡ room = ap (λ b. if b then room else 0) small in
-          omega (arith, ap (λ (x : FrontState). x.room) same, rooms);
+          omega (arith, ap (λ (x : SubpagesState). x.room) same, rooms);
     }
 
 -- ---- the arena
@@ -107,7 +107,7 @@ module _ (s : Inside) (order page chunks room : ℕ) (page_is : s.page ≡ page)
         lists = ap (λ (l : Listing). l.places) lists ∙ sym count;
         places = λ k d less. (unused k d less).0 ∙ sym classes;
         fronts =
-            subst (λ (fs : List FrontState). HasRoomAt (length s.places.items * chunk_pages s.classes) s.classes fs)
+            subst (λ (fs : List SubpagesState). HasRoomAt (length s.places.items * chunk_pages s.classes) s.classes fs)
             (sym fronts)
             (subst (λ (n : ℕ). HasRoomAt n s.classes (map (front_for s.classes room) (below (class_count s.classes))))
             (room_is ∙ ap (λ (n : ℕ). n * chunk_pages (of_pages order page)) (sym count)
@@ -124,7 +124,7 @@ module _ (s : Inside) (order page chunks room : ℕ) (page_is : s.page ≡ page)
         ∙ ap (λ (n : ℕ). replicate n None) count) i;
     lists = no_lists i;
     fronts =
-        (ap (map (λ (f : FrontState). f.spots)) fronts ∙ no-spots s.classes room (class_count s.classes)
+        (ap (map (λ (f : SubpagesState). f.spots)) fronts ∙ no-spots s.classes room (class_count s.classes)
         ∙ ap (λ (g : Geometry). replicate (class_count g) []) classes) i;
     takings = 0;
     out = [];

@@ -12,8 +12,8 @@ use Rattle.arena_laws.specs.Orderly.{IsOrderly, has_spot}
 use Rattle.arena_laws.proofs.FrontSteps.{spot-first, front-same}
 use Rattle.arena_laws.proofs.OrderlyTakes.{take_subpage-orderly, take_run-fronts}
 use Rattle.pool_arena.specs.declared.place.Wanted.{Wanted}
-use Rattle.pool_arena.specs.declared.front.SubpageAt.{SubpageAt}
-use Rattle.pool_arena.specs.Fronts.{pair_of, IsFirst}
+use Rattle.pool_arena.specs.declared.subpage_list.SubpageAt.{SubpageAt}
+use Rattle.pool_arena.specs.SubpageLists.{pair_of, IsFirst}
 use Rattle.pool_arena.specs.Places.{use_wanted}
 use Rattle.pool_arena.specs.Stocks.{StockState, arena_with, arena_in, YieldsNone, run_wanted, NewFront, IsOpen, GivesPlace}
 

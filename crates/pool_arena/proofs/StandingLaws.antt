@@ -1,7 +1,6 @@
 -- An arena stands for one note more after each of its calls.
 use Rattle.std.proofs.Common.{◌≡◌, ℕ, ◌<◌, List, [], ◌∷◌, ◌++◌, length, refl, sym, ap, ap₂, ◌∙◌, subst, Bool, Some, None, lt-ltb}
 use Rattle.std.specs.Prelude.{Option, option_map, option_and_then, slice_get, if◌then◌else◌}
-use Rattle.std.proofs.lemmas.List.{length-replicate}
 use Rattle.ground.specs.Ground.{Origin}
 use Rattle.ground.specs.Grounds.{Grounds}
 use Rattle.size_classes.specs.Sizes.{Geometry, class_count, size_at}
@@ -12,7 +11,7 @@ use Rattle.pool_law.specs.declared.note.Noted.{Noted}
 use Rattle.pool_law.specs.Arenas.{Arena, Spotted, new_arena, noted_taking, take_class, take, give, arena_step, as_noted, if_none}
 use Rattle.pool_law.proofs.HistoryLemmas.{after-noted}
 use Rattle.pool_law.proofs.PatternLemmas.{same_region-refl}
-use Rattle.pool_arena.specs.ArenaStates.{ArenaState, IsNew, law_of, AreGroundsOf, IsSameArena, Takes, IsFullFor, Gives, without_taking}
+use Rattle.pool_arena.specs.ArenaStates.{ArenaState, law_of, IsSameArena, Takes, IsFullFor, Gives, without_taking}
 use Rattle.pool_arena.specs.Standing.{arena_told, StandsFor, StandsMore}
 
 -- what a taking says of its region
@@ -92,14 +91,3 @@ gives-stands old new r gives grounds h n is stands is_out =
     stands_more grounds h n (Give r) is old new stands gives.same (without_taking r stands.out)
     (ap (λ (b : Bool). if b then Some (give old.geometry (law_of old stands.out) r) else None) is_out
     ∙ ap Some (gives.step stands.out))
-
--- a new arena stands for no notes
-pub stands_new : (grounds : Grounds) (number page order chunks : ℕ) (a : ArenaState) → IsNew number page order chunks a
-    → AreGroundsOf grounds a → StandsFor grounds [] a
-stands_new grounds number page order chunks a is on =
-    let places : length a.chunks ≡ chunks = ap (λ (x : Arena). length x.chunks) is.law ∙ length-replicate chunks None in
-    record {
-      out = [];
-      told = ap Some ((λ i. new_arena (is.geometry i) (places i)) ∙ sym is.law);
-      on = on;
-    }

@@ -17,7 +17,7 @@ use Rattle.chunk_list.proofs.SettlingLaws.{added-is}
 use Rattle.pool_arena.specs.Places.{PlaceState, runs_of}
 use Rattle.pool_arena.specs.Stocks.{Becomes}
 use Rattle.pool_arena.specs.Held.{stock_in, HasRoomAt, IsStock}
-use Rattle.pool_arena.specs.Fronts.{FrontState}
+use Rattle.pool_arena.specs.SubpageLists.{SubpagesState}
 use Rattle.pool_arena.specs.declared.stock.ChunkStock.TheInside.{Inside}
 use Rattle.pool_arena.proofs.UsageLaws.{size-some}
 use Rattle.pool_arena.proofs.StockLaws.{Written, place-geometry, written-grounds, written-chunks, written-held, written-settled}
@@ -50,7 +50,7 @@ module _ (s t : Inside) (c : ℕ) (x q : PlaceState) (w : Written s t c x q) (is
   pub start-held : (name : ListName) → list_of t.lists.lists c ≡ Some name → IsWithin 0 name → IsStock t
   start-held name listed within =
       written-held s t c x q w is
-      (subst (λ (fs : List FrontState). HasRoomAt (length s.places.items * chunk_pages s.classes) s.classes fs)
+      (subst (λ (fs : List SubpagesState). HasRoomAt (length s.places.items * chunk_pages s.classes) s.classes fs)
       (sym fronts) is.fronts)
       (written-settled s t c x q w is
       (λ d other. ap (λ l. list_of l d) lists-entered ∙ entered-other s.lists.lists c d QInit other)
@@ -68,7 +68,7 @@ module _ (s t : Inside) (c : ℕ) (x q : PlaceState) (w : Written s t c x q) (is
         law = λ takings out i. record {
           chunks = (ap (slice_set (stock_in s).chunks c) (sym chunk-new) ∙ sym (written-chunks s t c x q w)) i;
           lists = sym lists-entered i;
-          fronts = ap (map (λ (f : FrontState). f.spots)) (sym fronts) i;
+          fronts = ap (map (λ (f : SubpagesState). f.spots)) (sym fronts) i;
           takings = takings;
           out = out;
         };

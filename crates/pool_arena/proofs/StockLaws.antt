@@ -16,7 +16,7 @@ use Rattle.arena_laws.proofs.ChunkSteps.{same_or-not}
 use Rattle.chunk_list.specs.Listing.{Listing}
 use Rattle.chunk_list.specs.Settling.{settled, IsWithin}
 use Rattle.pool_arena.specs.Places.{PlaceState, runs_of}
-use Rattle.pool_arena.specs.Fronts.{FrontState}
+use Rattle.pool_arena.specs.SubpageLists.{SubpagesState}
 use Rattle.pool_arena.specs.Stocks.{StockState, arena_in}
 use Rattle.pool_arena.specs.Held.{stock_in, HasRoomAt, AreSettled, IsStock}
 use Rattle.pool_arena.specs.declared.stock.ChunkStock.TheInside.{Inside}
@@ -142,13 +142,13 @@ module _ (s t : Inside) (c : ℕ) (x q : PlaceState) (w : Written s t c x q) (sa
         ∙ map-set_same (λ (p : PlaceState). p.chunk) s.places.items c q x
         (ap (λ (p : PlaceState). p.chunk) (same ∙ sym (read-is s.places.items c x x w.found)))) i;
     lists = ap (λ (l : Listing). l.lists) lists i;
-    fronts = ap (map (λ (f : FrontState). f.spots)) fronts i;
+    fronts = ap (map (λ (f : SubpagesState). f.spots)) fronts i;
   }
 
   pub unwritten-held : IsStock s → IsStock t
   unwritten-held is =
       written-held s t c x q w is
-      (subst (λ (fs : List FrontState). HasRoomAt (length s.places.items * chunk_pages s.classes) s.classes fs)
+      (subst (λ (fs : List SubpagesState). HasRoomAt (length s.places.items * chunk_pages s.classes) s.classes fs)
       (sym fronts) is.fronts)
       (subst AreSettled (sym unwritten-state) is.settled)
 

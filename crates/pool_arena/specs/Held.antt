@@ -8,7 +8,7 @@ use Rattle.pool_law.specs.Arenas.{chunk_at}
 use Rattle.chunk_list.specs.Settling.{IsWithin}
 use Rattle.arena_laws.specs.Orderly.{IsOrderly}
 use Rattle.pool_arena.specs.Places.{PlaceState}
-use Rattle.pool_arena.specs.Fronts.{FrontState, new_front}
+use Rattle.pool_arena.specs.SubpageLists.{SubpagesState, new_front}
 use Rattle.pool_arena.specs.Stocks.{StockState, arena_in}
 use Rattle.pool_arena.specs.ArenaStates.{ArenaState}
 use Rattle.pool_arena.specs.declared.stock.ChunkStock.TheInside.{Inside as StockInside}
@@ -21,17 +21,17 @@ stock_in s =
       grounds = map (λ (p : PlaceState). p.origin) s.places.items;
       chunks = map (λ (p : PlaceState). p.chunk) s.places.items;
       lists = s.lists.lists;
-      fronts = map (λ (f : FrontState). f.spots) s.fronts.items;
+      fronts = map (λ (f : SubpagesState). f.spots) s.fronts.items;
     }
 
 -- a front of a small class has room for every page of every chunk
-pub record HasRoomAt (pages : ℕ) (g : Geometry) (fronts : List FrontState) : Type 0 where
+pub record HasRoomAt (pages : ℕ) (g : Geometry) (fronts : List SubpagesState) : Type 0 where
   pub count : length fronts ≡ class_count g
-  pub room : (class : ℕ) (f : FrontState) → is_small g class ≡ true →
+  pub room : (class : ℕ) (f : SubpagesState) → is_small g class ≡ true →
       slice_get fronts class ≡ Some f → pages ≤ f.room
 
 -- a front at first: one of a small class has so much room, and another none
-abbrev pub front_for : Geometry → ℕ → ℕ → FrontState
+abbrev pub front_for : Geometry → ℕ → ℕ → SubpagesState
 front_for g room class = new_front (if is_small g class then room else 0)
 
 -- each chunk stands in the list in which its usage lies

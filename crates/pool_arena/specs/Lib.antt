@@ -1,8 +1,7 @@
 pub mod ArenaStates
 pub mod Places
-pub mod Fronts
+pub mod SubpageLists
 pub mod Stocks
 pub mod Held
 pub mod Standing
 pub mod Closing
-pub mod Trials

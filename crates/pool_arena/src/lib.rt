@@ -4,9 +4,9 @@
 //! are asked. What it gives and takes back is exactly what `pool_law` says of an arena.
 
 mod arena;
-mod front;
 mod place;
 mod stock;
+mod subpage_list;
 mod told;
 
 pub use arena::Arena;

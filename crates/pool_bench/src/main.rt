@@ -27,7 +27,9 @@ use std::thread::Threads;
 use std::time::Instant;
 use std::{env, thread};
 
+mod alone;
 mod batches;
+mod bytes;
 mod draws;
 mod passed;
 mod places;

@@ -12,8 +12,9 @@ ghost use Rattle.seat_work.specs.Works.{Works, Goes};
 ghost use Rattle.pool_bench.specs.Runs.{MayRun, HasRun};
 ghost use Rattle.pool_bench.specs.Mails.{HasMail, next_lane};
 
+use crate::bytes::{count_others, sum_of, write_and_read};
 use crate::draws::Draws;
-use crate::work::{Tally, Workload, asked, count_others, sum_of, write_and_read};
+use crate::work::{Tally, Workload, asked};
 use pool_law::{Parcel, RootId, Shape, ViewData};
 use seat_work::{allocate, fetch, get, post, release};
 use shared_pool::{PoolSeat, SharedPool};

@@ -3,7 +3,6 @@ pub mod Values
 pub mod CallLaws
 pub mod Places
 pub mod Placed
-pub mod Shares
 pub mod ParcelSlotValues
 pub mod Closed
 pub mod Passed

@@ -5,6 +5,7 @@
 mod buffer;
 mod calls;
 mod carried;
+mod closable;
 mod closing;
 mod closing_exports;
 mod codes;

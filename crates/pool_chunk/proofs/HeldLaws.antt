@@ -12,7 +12,7 @@ use Rattle.size_classes.specs.Spans.{taken_from, given_back, IsOut}
 use Rattle.size_classes.specs.Runs.{Begins}
 use Rattle.size_classes.proofs.Runs.{Begins-inside, Begins-run_at}
 use Rattle.run_map.specs.FreeRuns.{FreeRuns, geometry_in, IsRunOf, IsTaken, span_of, IsPages}
-use Rattle.run_map.specs.FreeRuns.{with_runs as with_spans, all_free as all_spans, IsChunkGround as IsPagesGround}
+use Rattle.run_map.specs.FreeRuns.{with_runs as with_spans, all_free as all_spans, IsPagesGround}
 use Rattle.pool_law.specs.Chunks.{Chunk, Use, new_chunk}
 use Rattle.pool_chunk.specs.declared.slot.PageUse.{PageUse}
 use Rattle.pool_chunk.specs.PlaceWords.{AreFields}

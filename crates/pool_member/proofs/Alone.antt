@@ -49,12 +49,6 @@ module _ (but : Option RootId) where
   keeps_on old mid new x y root ne alone =
       let a = x root (not_none root) alone in let b = y root ne a.0 in (b.0, b.1 ∙ a.1)
 
-  pub stays_on : (old mid new : PoolSeat) → Stays None old mid → Stays but mid new → Stays but old new
-  stays_on old mid new x y = record {
-    alone = λ root alone. y.alone root (x.alone root alone);
-    laid = λ root ne alone. y.laid root ne (x.alone root alone) ∙ x.laid root (not_none root) alone;
-  }
-
   -- a seat that knows what it knew
   pub stays_same : (old new : PoolSeat) → view_of new ≡ view_of old → Stays but old new
   stays_same old new same = record {

@@ -1,6 +1,6 @@
 -- What is kept of the roots that a thread alone has, once what is kept at a place has changed.
-use Rattle.std.proofs.Common.{◌≡◌, ◌≢◌, ◌⊎◌, ℕ, zero, suc, ◌<◌, Bool, true, false, List, [], ◌∷◌, inl, inr, sym, ap, ◌∙◌, ⊎_elim, arith, Some}
-use Rattle.std.specs.Prelude.{◌&&◌, slice_get, slice_set, All}
+use Rattle.std.proofs.Common.{◌≡◌, ◌≢◌, ◌⊎◌, ◌<◌, Bool, true, false, List, [], ◌∷◌, inl, inr, sym, ap, ◌∙◌, ⊎_elim, Some}
+use Rattle.std.specs.Prelude.{◌&&◌, slice_get, slice_set}
 use Rattle.std.proofs.lemmas.Bool.{cases_eq, and_right}
 use Rattle.history_laws.proofs.Names.{same_root-or}
 use Rattle.pool_law.specs.declared.id.RootId.{RootId}
@@ -13,15 +13,6 @@ use Rattle.pool_member.specs.Counting.{counted, if_alone, is_alone}
 and_true : (a b : Bool) → (a && b) ≡ true → (a && true) ≡ true
 and_true true b is = λ i. true
 and_true false b is = is
-
-none_at : (cs : List Counted) (n : ℕ) (root : RootId) → All (λ c. c.alone ≡ false) cs
-    → if_alone (slice_get cs n) root ≡ false
-none_at [] n root all = λ i. false
-none_at (c ∷ cs) zero root all = and_right (same_root c.root root) c.alone (all 0 c (omega arith))
-none_at (c ∷ cs) (suc n) root all = none_at cs n root (λ k d lt. all (suc k) d (omega arith))
-
-pub none_alone : (cs : List Counted) → All (λ c. c.alone ≡ false) cs → (root : RootId) → is_alone cs root ≡ false
-none_alone cs all root = none_at cs root.place root all
 
 module _ (cs : List Counted) (root : RootId) (c : Counted) (at : slice_get cs root.place ≡ Some c) where
   alone_here : (other : RootId) → other.place ≡ root.place → is_alone cs other ≡ (same_root c.root other && c.alone)

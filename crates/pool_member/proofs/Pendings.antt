@@ -14,9 +14,8 @@ use Rattle.seat_work.specs.Works.{IsLater, Proceeds, Works}
 use Rattle.seat_work.proofs.Holds.{region_stays}
 use Rattle.seat_work.proofs.Later.{later_has, later_on}
 use Rattle.seat_work.proofs.Proceeding.{proceeds_none, proceeds_on}
-use Rattle.seat_tries.specs.declared.begun.Begun.{Begun}
 use Rattle.seat_tries.specs.declared.begun.Begun.TheVariants.{Nothing, Place, Both}
-use Rattle.seat_tries.specs.Leaving.{GoesOn, MeetsOther}
+use Rattle.seat_tries.specs.Leaving.{MeetsOther}
 use Rattle.seat_tries.proofs.Goings.{begun_stays, meets, meets_on}
 use Rattle.pool_member.specs.declared.pending.Pending.{Pending}
 use Rattle.pool_member.specs.declared.pending.Pending.TheVariants.{Tried, Piece}
@@ -37,17 +36,6 @@ met_by pool old new (Tried (Both h r)) some cause = cause
 met_by pool old new (Piece r) some cause = cause
 
 module _ (pool : SharedPool) (old new : PoolSeat) where
-  -- as a try of a seat left it
-  pub tried_away : (turns : ℕ) (left : Begun) → GoesOn pool turns no_change old new left
-      → PutsAway pool turns old new (Tried left)
-  tried_away turns left goes = record {
-    spent = goes.spent;
-    within = goes.within;
-    proceeds = goes.proceeds;
-    pending = goes.begun;
-    later = goes.later;
-    cause = goes.cause;
-  }
 
   -- nothing is left
   pub none_away : (spent turns : ℕ) → spent ≤ turns → Proceeds pool empty_hand spent 0 no_change old new

@@ -1,7 +1,7 @@
 -- What a thread was told of the capacity of roots, where it was told nothing, and once what is kept at a
 -- place has changed.
-use Rattle.std.proofs.Common.{◌≡◌, ◌≢◌, ℕ, zero, suc, ◌<◌, ◌≤◌, max, Bool, true, false, List, [], ◌∷◌, refl, sym, ap, ◌∙◌, subst, ⊎_elim, arith, Some}
-use Rattle.std.specs.Prelude.{if◌then◌else◌, slice_get, slice_set, All}
+use Rattle.std.proofs.Common.{◌≡◌, ◌≢◌, ℕ, ◌<◌, ◌≤◌, max, Bool, true, false, List, [], ◌∷◌, refl, sym, ap, ◌∙◌, subst, ⊎_elim, arith, Some}
+use Rattle.std.specs.Prelude.{if◌then◌else◌, slice_get, slice_set}
 use Rattle.std.proofs.lemmas.Bool.{cases_eq, cases_Bool}
 use Rattle.pool_law.specs.declared.id.RootId.{RootId}
 use Rattle.pool_law.specs.Same.{same_root}
@@ -18,14 +18,6 @@ same_least a b e = omega (arith, e)
 
 pub least_by : (a b c d : ℕ) → a ≡ b → b ≤ c → c ≡ d → a ≤ d
 least_by a b c d e le f = omega (arith, e, le, f)
-
-none_at : (cs : List Counted) (n : ℕ) (root : RootId) → All (λ c. c.told ≡ 0) cs → if_told (slice_get cs n) root ≡ 0
-none_at [] n root all = refl
-none_at (c ∷ cs) zero root all = zero_if (same_root c.root root) c.told (all 0 c (omega arith))
-none_at (c ∷ cs) (suc n) root all = none_at cs n root (λ k d lt. all (suc k) d (omega arith))
-
-pub none_told : (cs : List Counted) → All (λ c. c.told ≡ 0) cs → (root : RootId) → told cs root ≡ 0
-none_told cs all root = none_at cs root.place root all
 
 module _ (cs : List Counted) (root : RootId) (c : Counted) (at : slice_get cs root.place ≡ Some c) where
   told_here : (other : RootId) → other.place ≡ root.place

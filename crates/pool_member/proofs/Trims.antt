@@ -55,14 +55,6 @@ module _ (pool : SharedPool) where
       after = later_on pool it.next mid new it.after later;
     }
 
-  pub empty_on : (classes : ℕ) (old mid new : PoolSeat) → IsLater pool old mid → AreEmpty pool classes mid new
-      → AreEmpty pool classes old new
-  empty_on classes old mid new later are class lt = finds_on class old mid new later (are class lt)
-
-  pub empty_then : (classes : ℕ) (old mid new : PoolSeat) → AreEmpty pool classes old mid → IsLater pool mid new
-      → AreEmpty pool classes old new
-  empty_then classes old mid new are later class lt = finds_then class old mid new (are class lt) later
-
   pub empty_none : (old new : PoolSeat) → AreEmpty pool 0 old new
   empty_none old new class lt = absurd (omega (arith, lt))
 

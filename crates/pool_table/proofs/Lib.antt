@@ -65,7 +65,6 @@ pub mod RegionNumbers
 pub mod OwnCaches
 pub mod OwnTakings
 pub mod After
-pub mod LaneCounts
 pub mod Places
 pub mod PlaceSums
 pub mod LoneBytes

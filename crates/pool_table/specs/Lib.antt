@@ -1,6 +1,6 @@
 pub mod Words
 pub mod Slots
-pub mod Spots
+pub mod BareSlots
 pub mod Firsts
 pub mod Views
 pub mod Counts

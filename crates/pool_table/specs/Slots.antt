@@ -9,10 +9,18 @@ use Rattle.pool_law.specs.declared.note.Object.{Object}
 use Rattle.pool_law.specs.Homes.{home_of, objects_of}
 use Rattle.pool_table.specs.Words.{single_of}
 
--- the slots of arenas, caches and bins lie 8 slots apart, so that no two of them share a
--- cache line or the line beside it; behind them the slots of root places are packed
+-- how far the slots of arenas, caches and bins lie apart: no two of them share a cache line or the
+-- line beside it
+abbrev pub slots_apart : ℕ
+slots_apart = 8
+
+-- how many slots are empty between two of them
+abbrev pub slot_gap : ℕ
+slot_gap = 7
+
+-- behind them the slots of root places are packed
 abbrev pub slot_lies : Shape → ℕ → ℕ
-slot_lies s i = cond (nat_lt i (single_of s)) (i * 8) (single_of s * 7 + i)
+slot_lies s i = cond (nat_lt i (single_of s)) (i * slots_apart) (single_of s * slot_gap + i)
 
 unfoldable pub slot_at : Shape → ℕ → ℕ
 slot_at s i = slot_lies s i

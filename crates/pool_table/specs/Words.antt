@@ -13,20 +13,24 @@ listed_of s = objects_of s + s.lanes * s.handles
 abbrev pub single_of : Shape → ℕ
 single_of s = s.arenas + s.lanes * lane_homes
 
--- what a lane's root places leave free of the last 16 words
-abbrev pub padding : Shape → ℕ
-padding s = (16 - s.handles % 16) % 16
+-- how far single words lie apart, so that no two of them share a cache line
+abbrev pub words_apart : ℕ
+words_apart = 16
 
--- single words lie 16 words apart, so that no two of them share a cache line; behind them the words
--- of root places, then those of counts, are packed, each lane's from a multiple of 16 on
+-- what a lane's root places leave free of the last so many words
+abbrev pub padding : Shape → ℕ
+padding s = (words_apart - s.handles % words_apart) % words_apart
+
+-- behind the single words those of root places, then those of counts, are packed, each lane's from a
+-- multiple of the distance on
 abbrev pub lies : Shape → ℕ → ℕ
 lies s i =
     cond (nat_lt i (single_of s))
-    (i * 16)
-    (single_of s * 16 + ((i - single_of s) + (i - single_of s) / s.handles * padding s))
+    (i * words_apart)
+    (single_of s * words_apart + ((i - single_of s) + (i - single_of s) / s.handles * padding s))
 
 abbrev pub all_words : Shape → ℕ
-all_words s = single_of s * 16 + 2 * s.lanes * (s.handles + padding s)
+all_words s = single_of s * words_apart + 2 * s.lanes * (s.handles + padding s)
 
 unfoldable pub word_at : Shape → ℕ → ℕ
 word_at s i = lies s i

@@ -11,8 +11,8 @@ ghost use Rattle.pool_table.specs.Sound.{IsTableShape};
 ghost use Rattle.pool_table.specs.Seats.{view_of, IsSeatOf, IsOutside};
 ghost use Rattle.pool_table.specs.Closed.{HasAllLanes, IsClosed};
 
+use crate::bare_slot::BareSlot;
 use crate::index::{listed_count, object_count, slot_index, word_index};
-use crate::spot::Spot;
 use crate::table::{PoolSeat, PoolTable};
 use atomic_table::Closed;
 use pool_law::{Noted, Shape};
@@ -68,7 +68,7 @@ fn take_words<S>(closed: &Closed<S, Global>, shape: &Shape, mut words: Vec<u64>)
 
 // The home values of a closed table in the order of the objects, into a Vec that has room.
 fn take_homes<H>(
-    closed: &mut Closed<Spot<H>, Global>,
+    closed: &mut Closed<BareSlot<H>, Global>,
     shape: &Shape,
     mut homes: Vec<Option<H>>,
 ) -> Vec<Option<H>>
@@ -88,17 +88,17 @@ fn take_homes<H>(
     let count = object_count(shape);
     for i in 0..count {
         let slot = slot_index(shape, i);
-        let mut spot = closed.take(slot);
-        let pushed = homes.push(Some(spot.take()));
+        let mut bare = closed.take(slot);
+        let pushed = homes.push(Some(bare.take()));
         let Ok(()) = pushed else { unreachable!() };
-        spot.leave();
+        bare.leave();
         pass_empty(closed, slot, slot_index(shape, i + 1));
     }
     homes
 }
 
 // Goes over the empty slots behind one.
-fn pass_empty<H>(closed: &mut Closed<Spot<H>, Global>, slot: usize, end: usize)
+fn pass_empty<H>(closed: &mut Closed<BareSlot<H>, Global>, slot: usize, end: usize)
     requires within { (slot < end) × (end ≤ slots_len closed.old.slots) }
     requires full { (k : ℕ) → slot < k → k < end →
         slice_index_or (slots_filled closed.old.slots) k false ≡ true }

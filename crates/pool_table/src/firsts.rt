@@ -3,6 +3,7 @@
 ghost use Rattle.std.specs.Prelude.{◌≡◌, ◌≤◌, ◌<◌, ◌*◌, ◌%◌};
 ghost use Rattle.pool_table.specs.Firsts.{AreFirsts};
 ghost use Rattle.pool_table.specs.Sound.{IsTableShape};
+ghost use Rattle.pool_table.specs.Words.{words_apart};
 
 use crate::index::{SLOTS_APART, WORDS_APART, single_count};
 use pool_law::Shape;
@@ -41,7 +42,7 @@ impl Firsts {
 fn packed_count(shape: &Shape) -> u32
     requires { IsTableShape shape.now }
     ensures within { result ≤ shape.now.lanes * shape.now.handles }
-    ensures full { 0 < result → shape.now.handles % 16 ≡ 0 }
+    ensures full { 0 < result → shape.now.handles % words_apart ≡ 0 }
 {
     if shape.handles as usize % WORDS_APART == 0 {
         shape.lanes * shape.handles

@@ -9,8 +9,8 @@ ghost use Rattle.pool_table.specs.Mailing.{HoldsParcel, MayReceive, MaySend};
 ghost use Rattle.pool_table.specs.Seats.{view_of, IsSeatOf, IsOutside, HasView, SameSeat};
 ghost use Rattle.pool_table.specs.Steps.{letter_beside, sends_next};
 
+use crate::bare_slot::BareSlot;
 use crate::rule::{Claiming, Lettered, ReceiveStep, SendStep, StayStep};
-use crate::spot::Spot;
 use crate::table::{PoolSeat, PoolTable};
 use crate::views::{Letter, SeatView};
 use atomic_table::Seat;
@@ -23,10 +23,10 @@ impl<H: Told<Note = Noted>> PoolTable<H> {
     #[inline(always)]
     fn send_seat<X: Lettered>(
         &self,
-        seat: &mut Seat<Spot<H>, SeatView>,
+        seat: &mut Seat<BareSlot<H>, SeatView>,
         to: u32,
         parcel: Parcel,
-    ) -> Seat<Spot<H>, SeatView>
+    ) -> Seat<BareSlot<H>, SeatView>
         requires named { (X.to ≡ to) × (X.parcel ≡ parcel) }
         requires own { seat.old.table_id ≡ self.now.table.shared.table_id }
         requires outside { seat.old.me.0.inside ≡ None }
@@ -41,7 +41,7 @@ impl<H: Told<Note = Noted>> PoolTable<H> {
 
     // A step that notes nothing, after which the seat knows what it counts.
     #[inline(always)]
-    fn stay<C: Claiming>(&self, seat: &mut Seat<Spot<H>, SeatView>)
+    fn stay<C: Claiming>(&self, seat: &mut Seat<BareSlot<H>, SeatView>)
         requires named { C.layout ≡ self.now.layout }
         requires own { seat.old.table_id ≡ self.now.table.shared.table_id }
         ensures same { (seat.new.table_id ≡ seat.old.table_id) × (seat.new.id ≡ seat.old.id) }
@@ -54,7 +54,7 @@ impl<H: Told<Note = Noted>> PoolTable<H> {
 
     // The same, in this table's layout.
     #[inline(always)]
-    fn look_round(&self, seat: &mut Seat<Spot<H>, SeatView>)
+    fn look_round(&self, seat: &mut Seat<BareSlot<H>, SeatView>)
         requires own { seat.old.table_id ≡ self.now.table.shared.table_id }
         ensures same { (seat.new.table_id ≡ seat.old.table_id) × (seat.new.id ≡ seat.old.id) }
         ensures unchanged { seat.new.me ≡ seat.old.me }

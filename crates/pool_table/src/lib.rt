@@ -5,6 +5,7 @@
 //! Each step is one atomic step on one word. Between any two steps the table is sound
 //! (`specs/Sound.antt`).
 
+mod bare_slot;
 mod closing;
 mod firsts;
 mod index;
@@ -12,6 +13,7 @@ pub mod laws;
 mod letters;
 mod making;
 mod opening;
+mod root_rule;
 mod root_sections;
 mod root_words;
 mod roots;
@@ -19,7 +21,6 @@ mod rule;
 mod seats;
 mod section;
 mod sections;
-mod spot;
 mod table;
 mod tokens;
 mod views;

@@ -5,8 +5,8 @@ ghost use Rattle.pool_table.specs.Sound.{IsTableShape};
 ghost use Rattle.pool_table.specs.Words.{IsOpening};
 ghost use Rattle.pool_table.specs.Slots.{laid_out, slots_of};
 
+use crate::bare_slot::BareSlot;
 use crate::index::{count_index, gap_count, object_count, word_count};
-use crate::spot::Spot;
 use pool_law::Shape;
 use std::alloc::{AllocError, Global};
 
@@ -25,7 +25,11 @@ pub(crate) fn opening_words(alloc: Global, shape: &Shape) -> Result<Vec<u64>, Al
 
 // Each home in its slot, in the same order, and the slots between them empty. The Vec that held
 // them keeps its room.
-pub(crate) fn wrapped<H>(shape: &Shape, homes: &mut Vec<H>, mut slots: Vec<Spot<H>>) -> Vec<Spot<H>>
+pub(crate) fn wrapped<H>(
+    shape: &Shape,
+    homes: &mut Vec<H>,
+    mut slots: Vec<BareSlot<H>>,
+) -> Vec<BareSlot<H>>
     requires shape { IsTableShape shape.now }
     requires homes { vec_len homes.old ≡ objects_of shape.now }
     requires slots { (slots.items ≡ []) × (slots_of shape.now ≤ vec_capacity slots) }
@@ -34,7 +38,7 @@ pub(crate) fn wrapped<H>(shape: &Shape, homes: &mut Vec<H>, mut slots: Vec<Spot<
 {
     while let Some(home) = homes.pop() {
         let home = leave_empty(&mut slots, gap_count(shape, homes.len()), home);
-        let pushed = slots.push(Spot::of(home));
+        let pushed = slots.push(BareSlot::of(home));
         let Ok(()) = pushed else { unreachable!() };
     }
     slots.as_mut_slice().reverse();
@@ -42,7 +46,7 @@ pub(crate) fn wrapped<H>(shape: &Shape, homes: &mut Vec<H>, mut slots: Vec<Spot<
 }
 
 // So many empty slots more. Each is one that the home value was in, which comes out again.
-fn leave_empty<H>(slots: &mut Vec<Spot<H>>, count: usize, home: H) -> H
+fn leave_empty<H>(slots: &mut Vec<BareSlot<H>>, count: usize, home: H) -> H
     requires { vec_len slots.old + count ≤ vec_capacity slots.old }
     ensures same { result ≡ home }
     ensures items { slots.new.items ≡ slots.old.items ++ replicate count None }
@@ -51,16 +55,16 @@ fn leave_empty<H>(slots: &mut Vec<Spot<H>>, count: usize, home: H) -> H
 {
     let mut home = home;
     for _made in 0..count {
-        let mut spot = Spot::of(home);
-        home = spot.take();
-        let pushed = slots.push(spot);
+        let mut bare = BareSlot::of(home);
+        home = bare.take();
+        let pushed = slots.push(bare);
         let Ok(()) = pushed else { unreachable!() };
     }
     home
 }
 
 // The homes out of their slots again, which are laid out.
-pub(crate) fn unwrapped<H>(shape: &Shape, mut slots: Vec<Spot<H>>, mut homes: Vec<H>) -> Vec<H>
+pub(crate) fn unwrapped<H>(shape: &Shape, mut slots: Vec<BareSlot<H>>, mut homes: Vec<H>) -> Vec<H>
     requires shape { IsTableShape shape.now }
     requires laid { slots.items ≡ laid_out shape.now 0 (filter_map (λ x. x) slots.items) }
     requires many { length (filter_map (λ x. x) slots.items) ≡ objects_of shape.now }
@@ -72,12 +76,12 @@ pub(crate) fn unwrapped<H>(shape: &Shape, mut slots: Vec<Spot<H>>, mut homes: Ve
     while left > 0 {
         left -= 1;
         drop_empty(&mut slots, gap_count(shape, left));
-        let Some(mut spot) = slots.pop() else {
+        let Some(mut bare) = slots.pop() else {
             unreachable!()
         };
-        let pushed = homes.push(spot.take());
+        let pushed = homes.push(bare.take());
         let Ok(()) = pushed else { unreachable!() };
-        spot.leave();
+        bare.leave();
     }
     slots.destroy_empty();
     homes.as_mut_slice().reverse();
@@ -85,15 +89,15 @@ pub(crate) fn unwrapped<H>(shape: &Shape, mut slots: Vec<Spot<H>>, mut homes: Ve
 }
 
 // So many empty slots less, behind those before them.
-fn drop_empty<H>(slots: &mut Vec<Spot<H>>, count: usize)
+fn drop_empty<H>(slots: &mut Vec<BareSlot<H>>, count: usize)
     ghost before: { List (Option H) }
     requires gap { slots.old.items ≡ before ++ replicate count None }
     ensures { slots.new.items ≡ before }
 {
     for _dropped in 0..count {
-        let Some(spot) = slots.pop() else {
+        let Some(bare) = slots.pop() else {
             unreachable!()
         };
-        spot.leave();
+        bare.leave();
     }
 }

@@ -8,11 +8,11 @@ ghost use Rattle.pool_table.specs.Sound.{IsTableShape};
 ghost use Rattle.pool_table.specs.Steps.{first_view};
 ghost use Rattle.pool_table.specs.Opened.{AreFirstSeats, AreNone, StandAtFirst};
 
+use crate::bare_slot::{BareSlot, let_go};
 use crate::firsts::Firsts;
 use crate::index::{listed_count, object_count, slot_count};
 use crate::making::{opening_words, unwrapped, wrapped};
 use crate::rule::{CutStep, Opening};
-use crate::spot::{Spot, let_go};
 use crate::table::{LANES, PoolSeat, PoolTable};
 use crate::views::{Layout, SeatView};
 use atomic_table::{Refused, Seat, Table};
@@ -24,7 +24,7 @@ use step_law::Told;
 // All memory that a table takes.
 struct Memory<H: Told<Note = Noted>> {
     words: Vec<u64>,
-    slots: Vec<Spot<H>>,
+    slots: Vec<BareSlot<H>>,
     spare_words: Vec<u64>,
     spare_homes: Vec<Option<H>>,
     seats: Vec<PoolSeat<H>>,
@@ -62,7 +62,7 @@ fn take_memory<H: Told<Note = Noted>>(alloc: Global, shape: &Shape) -> Result<Me
     let counts = no_letters(alloc, shape.lanes)?;
     let words = opening_words(alloc, shape)?;
     let spare_words = Vec::with_capacity(alloc, count)?;
-    let slots: Vec<Spot<H>> = Vec::with_capacity(alloc, slot_count(shape))?;
+    let slots: Vec<BareSlot<H>> = Vec::with_capacity(alloc, slot_count(shape))?;
     let Ok(spare_homes) = Vec::with_capacity(alloc, objects) else {
         slots.destroy_empty();
         return Err(AllocError);
@@ -86,7 +86,7 @@ impl<H: Told<Note = Noted>> PoolTable<H> {
     // CutStep the first seats out of the opening view.
     fn first_seats(
         &self,
-        mut rest: Seat<Spot<H>, SeatView>,
+        mut rest: Seat<BareSlot<H>, SeatView>,
         mut seats: Vec<PoolSeat<H>>,
         mut counts: Vec<Vec<u64>>,
     ) -> Vec<PoolSeat<H>>

@@ -12,9 +12,9 @@ ghost use Rattle.pool_table.specs.Holders.{HoldsPlace};
 ghost use Rattle.pool_table.specs.Steps.{claims, marks_claims};
 ghost use Rattle.pool_table.specs.Sections.{GotSection, FoundHeld};
 
+use crate::bare_slot::{BareSlot, taken};
 use crate::index::place_slot;
 use crate::rule::{ClaimStep, Claiming, MarkStep};
-use crate::spot::{Spot, taken};
 use crate::table::{HomeSlot, PoolSeat, PoolTable, Section};
 use crate::views::SeatView;
 use atomic_table::Seat;
@@ -27,7 +27,7 @@ impl<H: Told<Note = Noted>> PoolTable<H> {
     #[inline(always)]
     fn claim_place_word<C: Claiming>(
         &self,
-        seat: &mut Seat<Spot<H>, SeatView>,
+        seat: &mut Seat<BareSlot<H>, SeatView>,
         place: u32,
         slot: HomeSlot,
         mark: bool,

@@ -11,9 +11,9 @@ ghost use Rattle.pool_table.specs.Counts.{CountsOne, HasCount, HasToken, with_re
 ghost use Rattle.pool_table.specs.Hands.{HasEnded, InHand, IsAwaited};
 ghost use Rattle.pool_table.specs.Steps.{births, releases};
 
+use crate::bare_slot::BareSlot;
 use crate::index::root_index;
-use crate::rule::{BirthStep, LookStep, ReleaseStep, RetainStep, Rooted, VacateStep};
-use crate::spot::Spot;
+use crate::root_rule::{BirthStep, LookStep, ReleaseStep, RetainStep, Rooted, VacateStep};
 use crate::table::PoolTable;
 use crate::views::SeatView;
 use atomic_table::Seat;
@@ -24,7 +24,7 @@ impl<H: Told<Note = Noted>> PoolTable<H> {
     #[inline(always)]
     pub(crate) fn birth_word<R: Rooted>(
         &self,
-        seat: &mut Seat<Spot<H>, SeatView>,
+        seat: &mut Seat<BareSlot<H>, SeatView>,
         root: RootId,
     ) -> u64
         requires named { R.root ≡ root }
@@ -47,7 +47,7 @@ impl<H: Told<Note = Noted>> PoolTable<H> {
     #[inline(always)]
     pub(crate) fn retain_word<R: Rooted>(
         &self,
-        seat: &mut Seat<Spot<H>, SeatView>,
+        seat: &mut Seat<BareSlot<H>, SeatView>,
         root: RootId,
     ) -> u64
         requires named { R.root ≡ root }
@@ -67,7 +67,7 @@ impl<H: Told<Note = Noted>> PoolTable<H> {
     #[inline(always)]
     pub(crate) fn release_word<R: Rooted>(
         &self,
-        seat: &mut Seat<Spot<H>, SeatView>,
+        seat: &mut Seat<BareSlot<H>, SeatView>,
         root: RootId,
     ) -> u64
         requires named { R.root ≡ root }
@@ -88,7 +88,7 @@ impl<H: Told<Note = Noted>> PoolTable<H> {
     #[inline(always)]
     pub(crate) fn vacate_word<R: Rooted>(
         &self,
-        seat: &mut Seat<Spot<H>, SeatView>,
+        seat: &mut Seat<BareSlot<H>, SeatView>,
         root: RootId,
     ) -> u64
         requires named { R.root ≡ root }
@@ -109,7 +109,7 @@ impl<H: Told<Note = Noted>> PoolTable<H> {
     #[inline(always)]
     pub(crate) fn look_word<R: Rooted>(
         &self,
-        seat: &mut Seat<Spot<H>, SeatView>,
+        seat: &mut Seat<BareSlot<H>, SeatView>,
         root: RootId,
     ) -> u64
         requires named { R.root ≡ root }

@@ -1,5 +1,5 @@
 //! The rule, and what each kind of step tells its seat. These types are for the proofs alone.
-use crate::spot::Spot;
+use crate::bare_slot::BareSlot;
 use crate::views::{Layout, SeatView};
 use atomic_table::{Join, Play, Split, TableRule};
 use pool_law::{Named, Noted};
@@ -16,7 +16,7 @@ pub struct Opening<H> {
     pub homes: Snapshot<Vec<H>>,
 }
 
-impl<H: Told<Note = Noted>> TableRule<Spot<H>, SeatView, Opening<H>> for Rule {
+impl<H: Told<Note = Noted>> TableRule<BareSlot<H>, SeatView, Opening<H>> for Rule {
     ghost use Rattle.pool_table.specs.Sound.{IsSound};
     ghost use Rattle.pool_table.specs.Steps.{first_view};
 
@@ -47,7 +47,7 @@ pub struct ClaimStep<C> {
     of: PhantomData<C>,
 }
 
-impl<H: Told<Note = Noted>, C: Claiming> Play<Spot<H>, SeatView> for ClaimStep<C> {
+impl<H: Told<Note = Noted>, C: Claiming> Play<BareSlot<H>, SeatView> for ClaimStep<C> {
     ghost use Rattle.pool_table.specs.Steps.{claims};
 
     ghost then = { claims H.stands C.layout C.object };
@@ -57,7 +57,7 @@ pub struct MarkStep<C> {
     of: PhantomData<C>,
 }
 
-impl<H: Told<Note = Noted>, C: Claiming> Play<Spot<H>, SeatView> for MarkStep<C> {
+impl<H: Told<Note = Noted>, C: Claiming> Play<BareSlot<H>, SeatView> for MarkStep<C> {
     ghost use Rattle.pool_table.specs.Steps.{marks_claims};
 
     ghost then = { marks_claims H.stands C.layout C.object };
@@ -67,7 +67,7 @@ pub struct DoneStep<N> {
     of: PhantomData<N>,
 }
 
-impl<H: Told<Note = Noted>, N: Named> Play<Spot<H>, SeatView> for DoneStep<N> {
+impl<H: Told<Note = Noted>, N: Named> Play<BareSlot<H>, SeatView> for DoneStep<N> {
     ghost use Rattle.pool_table.specs.Steps.{counts_one, dones};
 
     ghost then = { counts_one (dones N.note) };
@@ -75,7 +75,7 @@ impl<H: Told<Note = Noted>, N: Named> Play<Spot<H>, SeatView> for DoneStep<N> {
 
 pub struct IdleStep;
 
-impl<H: Told<Note = Noted>> Play<Spot<H>, SeatView> for IdleStep {
+impl<H: Told<Note = Noted>> Play<BareSlot<H>, SeatView> for IdleStep {
     ghost use Rattle.pool_table.specs.Steps.{idles};
 
     ghost then = { idles };
@@ -197,71 +197,8 @@ pub struct StayStep<C> {
     of: PhantomData<C>,
 }
 
-impl<H: Told<Note = Noted>, C: Claiming> Play<Spot<H>, SeatView> for StayStep<C> {
+impl<H: Told<Note = Noted>, C: Claiming> Play<BareSlot<H>, SeatView> for StayStep<C> {
     ghost use Rattle.pool_table.specs.Steps.{counts_one, stays};
 
     ghost then = { counts_one (stays C.layout) };
-}
-
-/// Which root a step is on.
-pub trait Rooted {
-    ghost use Rattle.pool_law.specs.declared.id.RootId.{RootId};
-
-    ghost root: { RootId };
-}
-
-impl Rooted for Brand {
-    ghost use Rattle.pool_table.specs.Steps.{no_root};
-
-    ghost root = { no_root };
-}
-
-pub struct RetainStep<R> {
-    of: PhantomData<R>,
-}
-
-impl<H: Told<Note = Noted>, R: Rooted> Play<Spot<H>, SeatView> for RetainStep<R> {
-    ghost use Rattle.pool_table.specs.Steps.{counts_one, retains};
-
-    ghost then = { counts_one (retains R.root) };
-}
-
-pub struct LookStep<R> {
-    of: PhantomData<R>,
-}
-
-impl<H: Told<Note = Noted>, R: Rooted> Play<Spot<H>, SeatView> for LookStep<R> {
-    ghost use Rattle.pool_table.specs.Steps.{counts_one, looks};
-
-    ghost then = { counts_one (looks R.root) };
-}
-
-pub struct ReleaseStep<R> {
-    of: PhantomData<R>,
-}
-
-impl<H: Told<Note = Noted>, R: Rooted> Play<Spot<H>, SeatView> for ReleaseStep<R> {
-    ghost use Rattle.pool_table.specs.Steps.{counts_one, releases};
-
-    ghost then = { counts_one (releases R.root) };
-}
-
-pub struct VacateStep<R> {
-    of: PhantomData<R>,
-}
-
-impl<H: Told<Note = Noted>, R: Rooted> Play<Spot<H>, SeatView> for VacateStep<R> {
-    ghost use Rattle.pool_table.specs.Steps.{counts_one, vacates};
-
-    ghost then = { counts_one (vacates R.root) };
-}
-
-pub struct BirthStep<R> {
-    of: PhantomData<R>,
-}
-
-impl<H: Told<Note = Noted>, R: Rooted> Play<Spot<H>, SeatView> for BirthStep<R> {
-    ghost use Rattle.pool_table.specs.Steps.{births, counts_one};
-
-    ghost then = { counts_one (births R.root) };
 }

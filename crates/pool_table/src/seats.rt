@@ -6,8 +6,8 @@ ghost use Rattle.pool_table.specs.Letters.{first_letter};
 ghost use Rattle.pool_table.specs.Steps.{share_left, share_of, share_added, IsShare};
 ghost use Rattle.pool_table.specs.Seats.{view_of, IsSeatOf, IsOutside, HasView, SameSeat};
 
+use crate::bare_slot::BareSlot;
 use crate::rule::{AcceptStep, BlankStep, JoinStep, ShareStep, Sharing};
-use crate::spot::Spot;
 use crate::table::{PoolSeat, PoolTable};
 use crate::views::{Letter, SeatView};
 use atomic_table::Seat;
@@ -36,7 +36,7 @@ impl<H: Told<Note = Noted>> PoolTable<H> {
     #[inline(always)]
     pub(crate) fn unnumbered(
         &self,
-        seat: Seat<Spot<H>, SeatView>,
+        seat: Seat<BareSlot<H>, SeatView>,
         letter: Option<Letter>,
     ) -> PoolSeat<H>
         requires number { seat.me.0.own.number ≡ None }
@@ -68,9 +68,9 @@ impl<H: Told<Note = Noted>> PoolTable<H> {
     #[inline(always)]
     fn share_seat<M: Sharing>(
         &self,
-        seat: &mut Seat<Spot<H>, SeatView>,
+        seat: &mut Seat<BareSlot<H>, SeatView>,
         moves: u32,
-    ) -> Seat<Spot<H>, SeatView>
+    ) -> Seat<BareSlot<H>, SeatView>
         requires named { M.moves ≡ moves }
         requires own { seat.old.table_id ≡ self.now.table.shared.table_id }
         requires outside { seat.old.me.0.inside ≡ None }

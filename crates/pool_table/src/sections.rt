@@ -21,9 +21,9 @@ ghost use Rattle.pool_table.specs.Holders.{HoldsPlace};
 ghost use Rattle.pool_table.specs.Steps.{claims, marks_claims};
 ghost use Rattle.pool_table.specs.Sections.{GotSection, FoundHeld, MayEnd, MayIdle};
 
+use crate::bare_slot::{BareSlot, put_back, taken};
 use crate::index::object_slot;
 use crate::rule::{ClaimStep, Claiming, DoneStep, IdleStep, MarkStep};
-use crate::spot::{Spot, put_back, taken};
 use crate::table::{HomeSlot, PoolSeat, PoolTable, Section};
 use crate::views::SeatView;
 use atomic_table::Seat;
@@ -36,7 +36,7 @@ impl<H: Told<Note = Noted>> PoolTable<H> {
     #[inline(always)]
     fn claim_word<C: Claiming>(
         &self,
-        seat: &mut Seat<Spot<H>, SeatView>,
+        seat: &mut Seat<BareSlot<H>, SeatView>,
         object: Object,
         slot: HomeSlot,
         mark: bool,

@@ -8,9 +8,9 @@ ghost use Rattle.pool_table.specs.SeatFields.{IsSeatWith};
 ghost use Rattle.pool_table.specs.Firsts.{AreFirsts};
 ghost use Rattle.pool_table.specs.Sound.{IsTableShape};
 
+use crate::bare_slot::{BareSlot, let_go};
 use crate::firsts::Firsts;
 use crate::rule::{Opening, Rule};
-use crate::spot::{Spot, let_go};
 use crate::views::{Layout, Letter, SeatView};
 use atomic_table::{Seat, Table};
 use pool_law::{Noted, Object};
@@ -23,7 +23,7 @@ pub(crate) const LANES: usize = 16;
 /// One word for each object but the mails and for each root's count, and a slot for each such
 /// object's home value.
 pub struct PoolTable<H: Told<Note = Noted>> {
-    pub(crate) table: Table<Spot<H>, SeatView, Opening<H>, Rule, Global>,
+    pub(crate) table: Table<BareSlot<H>, SeatView, Opening<H>, Rule, Global>,
     pub(crate) layout: Layout,
     pub(crate) alloc: Global,
     pub(crate) firsts: Firsts,
@@ -43,7 +43,7 @@ pub struct PoolTable<H: Told<Note = Noted>> {
 /// The pass with which one thread makes steps. What a seat has that is dropped, notes, counts and
 /// letters, no other seat gets.
 pub struct PoolSeat<H: Told<Note = Noted>> {
-    pub(crate) seat: Seat<Spot<H>, SeatView>,
+    pub(crate) seat: Seat<BareSlot<H>, SeatView>,
     pub(crate) number: Option<u32>,
     /// The first letter that it holds.
     pub(crate) letter: Option<Letter>,
@@ -67,7 +67,7 @@ impl<H: Told<Note = Noted>> Drop for PoolSeat<H> {
 impl<H: Told<Note = Noted>> PoolSeat<H> {
     // The pass and the first letter. Only a method of the seat in this module can take it apart.
     #[inline(always)]
-    pub(crate) fn into_parts(self) -> (Seat<Spot<H>, SeatView>, Option<Letter>)
+    pub(crate) fn into_parts(self) -> (Seat<BareSlot<H>, SeatView>, Option<Letter>)
         ensures { result ≡ (self.seat, self.letter) }
     {
         let PoolSeat {

@@ -1,23 +1,22 @@
 //! The histories of all objects.
 
-ghost use Rattle.std.specs.Prelude.{◌≡◌, ◌≤◌, ◌^◌, [], ◌∷◌, ℕ, true, false, MatchOption, MatchResult, IfOk};
+ghost use Rattle.std.specs.Prelude.{◌≡◌, ◌≤◌, ◌^◌, [], ◌∷◌, true, false, MatchOption, MatchResult, IfOk};
 ghost use Rattle.std.specs.Option.{option_copied};
 ghost use Rattle.pool_law.specs.declared.note.Object.{Object};
 ghost use Rattle.pool_law.specs.Limits.{geometry_of};
-ghost use Rattle.pool_law.specs.declared.run.Shape.{Shape};
-ghost use Rattle.pool_law.specs.Logs.{Logs, dids, of_lane, own, has_history};
+ghost use Rattle.pool_law.specs.Logs.{Logs, dids};
 ghost use Rattle.object_steps.specs.Behind.{dids_behind};
 ghost use Rattle.run_check.specs.Merging.{dones_in};
 ghost use Rattle.run_check.specs.Spotting.{notes_in, AreSpots};
-ghost use Rattle.run_check.specs.Fronts.{IsBrokenAt, StopsAt};
-ghost use Rattle.run_check.specs.Storing.{TellsOf, object_history_in, has_object_history, history_in, told_in, IsObjectHistory, AreStories, Keeps, Covers, AreHistories};
+ghost use Rattle.run_check.specs.Fronts.{IsBrokenAt};
+ghost use Rattle.run_check.specs.Storing.{object_history_in, has_object_history, history_in, told_in, AreStories, Keeps, Covers, AreHistories};
 
-use crate::fronts::{accepted_of, broken_number, told_at};
+mod object;
+
+use crate::histories::object::object_history_of;
 use crate::keys::object_key;
-use crate::mails::mail_broken_at;
-use crate::merging::{Done, merged};
-use crate::spots::{Spots, left_at, spots_of};
-use crate::stands::has_history;
+use crate::merging::Done;
+use crate::spots::{Spots, spots_of};
 use object_steps::{PlaceTold, Sizes};
 use pool_law::{Did, LaneLog, Note, Object, Shape};
 use std::alloc::{AllocError, Global};
@@ -56,61 +55,6 @@ pub(crate) fn dids_of<'a>(alloc: Global, dones: &[Done<'a>]) -> Result<Vec<&'a D
         all.push(done.did)?;
     }
     Ok(all)
-}
-
-// The history of a mail, which has no history, or the first number at which the mail does not hold.
-fn object_history_of_mail<'a>(
-    alloc: Global,
-    lanes: &[Spots<'a>],
-    mail: &Object,
-) -> Result<Result<ObjectHistory<'a>, u64>, AllocError>
-    requires { has_history mail.now ≡ false }
-    ensures { (shape : Shape) → (logs : Logs) → AreSpots lanes.now logs → IfOk result (λ told.
-        MatchResult told (IsObjectHistory shape logs mail.now) (IsBrokenAt shape logs mail.now)) }
-{
-    if let Some(number) = mail_broken_at(alloc, lanes, mail)? {
-        return Ok(Err(number));
-    }
-    Ok(Ok(ObjectHistory {
-        dones: Vec::new(alloc),
-        told: Vec::new(alloc),
-    }))
-}
-
-// The history of an object, or the first number at which its notes are not whole or not accepted, or at
-// which the mail does not hold.
-fn object_history_of<'a>(
-    alloc: Global,
-    shape: &Shape,
-    sizes: &Sizes,
-    lanes: &[Spots<'a>],
-    object: &Object,
-) -> Result<Result<ObjectHistory<'a>, u64>, AllocError>
-    requires sizes { sizes.now ≡ geometry_of shape.now }
-    requires chunks { shape.now.chunks ≤ 2 ^ 16 }
-    requires handles { 1 ≤ shape.now.handles }
-    ensures { (logs : Logs) → AreSpots lanes.now logs → IfOk result (λ told.
-        MatchResult told (IsObjectHistory shape.now logs object.now)
-        (IsBrokenAt shape.now logs object.now)) }
-{
-    if !has_history(object) {
-        return object_history_of_mail(alloc, lanes, object);
-    }
-    let left = left_at(alloc, lanes, object)?;
-    let dones = match merged(alloc, left)? {
-        Ok(dones) => dones,
-        Err(stop) => {
-            let dids = dids_of(alloc, &stop.dones)?;
-            let number = broken_number(alloc, shape, sizes, object, &dids, stop.number)?;
-            return Ok(Err(number));
-        }
-    };
-    let dids = dids_of(alloc, &dones)?;
-    if let Some(told) = told_at(alloc, shape, sizes, object, &dids)? {
-        return Ok(Ok(ObjectHistory { dones, told }));
-    }
-    let accepted = accepted_of(alloc, shape, sizes, object, &dids)?;
-    Ok(Err(accepted as u64 + 1))
 }
 
 impl<'a> Histories<'a> {

@@ -1,12 +1,14 @@
 //! How often logs note each root's birth, retains, releases and end.
 
-ghost use Rattle.std.specs.Prelude.{◌≡◌, ◌+◌, ◌-◌, ◌<◌, ◌↔◌, ◌==◌, ◌^◌, ℕ, IsTrue, IfOk, OnOk, if◌then◌else◌};
+ghost use Rattle.std.specs.Prelude.{◌≡◌, ◌+◌, ◌-◌, ◌<◌, ◌==◌, ◌^◌, IfOk, OnOk, if◌then◌else◌};
 ghost use Rattle.std.specs.List.{AllZip};
 ghost use Rattle.pool_law.specs.declared.id.RootId.{RootId};
 ghost use Rattle.pool_law.specs.Same.{same_root};
-ghost use Rattle.run_check.specs.Tallying.{no_sums, more_births, sums_step, no_totals, plus, sums_in, sums_after, sums_from, total_sums, others_sum, AreAtMost, TotalsAtMost, IsTally, AreTotals};
+ghost use Rattle.run_check.specs.Tallying.{no_sums, sums_in, sums_after, sums_from, total_sums, others_sum, AreAtMost, IsTally};
 
-use pool_law::{Did, LaneLog, Note, RefDid, RootId};
+mod sums;
+
+use pool_law::{Did, LaneLog, Note, RootId};
 use std::alloc::{AllocError, Global};
 use std::collections::BTreeMap;
 
@@ -28,109 +30,6 @@ pub struct Totals {
     pub retains: u128,
     pub releases: u128,
     pub ends: u128,
-}
-
-impl Sums {
-    /// Nothing is noted.
-    pub fn none() -> Sums
-        ensures { result ≡ no_sums }
-    {
-        Sums {
-            births: 0,
-            borns: 0,
-            retains: 0,
-            releases: 0,
-            ends: 0,
-        }
-    }
-
-    // One more birth.
-    fn more_births(&self) -> Sums
-        requires { AreAtMost (2 ^ 64 - 2) self.now }
-        ensures { result ≡ more_births self.now }
-    {
-        Sums {
-            births: self.births + 1,
-            borns: self.borns,
-            retains: self.retains,
-            releases: self.releases,
-            ends: self.ends,
-        }
-    }
-
-    // After one more note on the count.
-    fn step(&self, did: RefDid) -> Sums
-        requires { AreAtMost (2 ^ 64 - 2) self.now }
-        ensures { result ≡ sums_step self.now did }
-    {
-        let mut sums = *self;
-        match did {
-            RefDid::Born => sums.borns += 1,
-            RefDid::Retain => sums.retains += 1,
-            RefDid::Kept => sums.releases += 1,
-            RefDid::Ended => {
-                sums.releases += 1;
-                sums.ends += 1;
-            }
-            RefDid::Vacated | RefDid::Look(_) => {}
-        }
-        sums
-    }
-}
-
-impl Totals {
-    /// Nothing is noted.
-    pub fn none() -> Totals
-        ensures { result ≡ no_totals }
-    {
-        Totals {
-            births: 0,
-            borns: 0,
-            retains: 0,
-            releases: 0,
-            ends: 0,
-        }
-    }
-
-    // These with the sums of one more log.
-    fn plus(&self, sums: &Sums) -> Totals
-        requires { TotalsAtMost (2 ^ 128 - 2 ^ 64) self.now }
-        ensures sums { result ≡ plus sums.now self.now }
-        ensures most { (n : ℕ) → TotalsAtMost n self.now → TotalsAtMost (n + (2 ^ 64 - 1)) result }
-    {
-        Totals {
-            births: u128::from(sums.births) + self.births,
-            borns: u128::from(sums.borns) + self.borns,
-            retains: u128::from(sums.retains) + self.retains,
-            releases: u128::from(sums.releases) + self.releases,
-            ends: u128::from(sums.ends) + self.ends,
-        }
-    }
-
-    /// Whether the total of a root is 0, which is one for its birth, and all retains less all
-    /// releases.
-    pub fn is_over(&self) -> bool
-        ensures { IsTrue result ↔ ((1 + self.now.retains) - self.now.releases ≡ 0) }
-    {
-        self.releases >= 1 && self.releases - 1 >= self.retains
-    }
-
-    /// Whether these are the sums of a root that was born.
-    pub fn are_totals(&self) -> bool
-        ensures { IsTrue result ↔ AreTotals self.now }
-    {
-        if self.releases >= 1 && self.releases - 1 > self.retains {
-            return false;
-        }
-        if self.borns != 1 || self.ends > 1 {
-            return false;
-        }
-        if self.is_over() {
-            self.ends == 1
-        } else {
-            self.ends == 0
-        }
-    }
 }
 
 /// The sums of each root, by place, generation and capacity.

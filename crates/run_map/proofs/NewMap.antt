@@ -5,7 +5,7 @@ use Rattle.ground.specs.Ground.{Origin, Segment}
 use Rattle.size_classes.specs.Sizes.{IsPage}
 use Rattle.size_classes.specs.Spans.{Span, placed_in, AreSpacedFrom}
 use Rattle.size_classes.proofs.Geometries.{by_page}
-use Rattle.run_map.specs.FreeRuns.{FreeRuns, IsChunkGround, all_free}
+use Rattle.run_map.specs.FreeRuns.{FreeRuns, IsPagesGround, all_free}
 use Rattle.run_map.specs.Spaced.{IsRunLayout, IsRun}
 use Rattle.run_map.specs.declared.runs.RunLayout.{RunLayout}
 use Rattle.run_map.proofs.Totals.{pages_in, total-one}
@@ -18,7 +18,7 @@ pub record IsLaidOut (l : RunLayout) (order : ℕ) (s : Segment) : Type 0 where
   pub size : s.origin.size ≡ l.pages * l.page
   pub is : IsPage l.page
 
-pub laid-out : (l : RunLayout) (order : ℕ) (s : Segment) → IsChunkGround order s → l.pages ≡ 2 ^ order →
+pub laid-out : (l : RunLayout) (order : ℕ) (s : Segment) → IsPagesGround order s → l.pages ≡ 2 ^ order →
     l.page ≡ length s.bytes / l.pages → s.origin.size ≤ 2 ^ 24 → IsLaidOut l order s
 laid-out l order s h many page small =
     let same : l.page ≡ s.origin.size / 2 ^ order = page ∙ ap₂ (λ (a b : ℕ). a / b) h.whole.1 many in
@@ -37,7 +37,7 @@ laid-out l order s h many page small =
       is = is;
     }
 
-pub whole-run : (l : RunLayout) (order : ℕ) (s : Segment) → IsChunkGround order s → l.pages ≡ 2 ^ order →
+pub whole-run : (l : RunLayout) (order : ℕ) (s : Segment) → IsPagesGround order s → l.pages ≡ 2 ^ order →
     l.site.origin ≡ s.origin →
     IsLaidOut l order s → IsRun l (record { first = 0; pages = l.pages; piece = s })
 whole-run l order s h many site laid = record {

@@ -20,7 +20,7 @@ abbrev pub geometry_in : FreeRuns → Geometry
 geometry_in m = of_pages m.order m.page
 
 -- a whole ground that is 2 ^ order pages
-pub record IsChunkGround (order : ℕ) (s : Segment) : Type 0 where
+pub record IsPagesGround (order : ℕ) (s : Segment) : Type 0 where
   pub whole : IsWhole s
   pub pages : s.origin.size % 2 ^ order ≡ 0
   pub page : IsPage (s.origin.size / 2 ^ order)

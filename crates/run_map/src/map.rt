@@ -5,7 +5,7 @@ ghost use Rattle.ground.specs.Ground.{IsWhole};
 ghost use Rattle.size_classes.specs.Sizes.{IsPageClass};
 ghost use Rattle.size_classes.specs.Pages.{chosen};
 ghost use Rattle.size_classes.specs.Spans.{run_lengths, given_back, IsOut, AreShorter};
-ghost use Rattle.run_map.specs.FreeRuns.{IsChunkGround, all_free, with_runs, span_of, geometry_in, IsPages, IsTaken, ArePagesOut, KeepsOut, KeepsOutBut};
+ghost use Rattle.run_map.specs.FreeRuns.{IsPagesGround, all_free, with_runs, span_of, geometry_in, IsPages, IsTaken, ArePagesOut, KeepsOut, KeepsOutBut};
 
 use crate::runs::{FreeRun, RunLayout, give_to, take_from};
 use crate::store::Store;
@@ -43,7 +43,7 @@ impl RunMap {
     /// The map of a whole ground, all of it free. Want of memory hands the ground back.
     pub fn new(alloc: Global, order: u32, piece: Piece) -> Result<RunMap, Piece>
         requires order { (3 ≤ order) × (order ≤ 11) }
-        requires chunk { IsChunkGround order piece }
+        requires chunk { IsPagesGround order piece }
         ensures { MatchResult result (λ map. map ≡ all_free order piece) (λ back. back ≡ piece) }
     {
         let pages = 2u32.pow(order);

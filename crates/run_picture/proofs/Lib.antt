@@ -1,5 +1,4 @@
 pub mod SlotLemmas
-pub mod BlockLemmas
 pub mod MeetLaw
 pub mod PlotLemmas
 pub mod TextLemmas

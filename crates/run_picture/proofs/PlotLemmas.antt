@@ -4,7 +4,7 @@ use Rattle.pool_law.specs.declared.run.Run.{Run}
 use Rattle.run_picture.specs.declared.chart.Chart.{Chart}
 use Rattle.run_picture.specs.declared.marks.Mark.{Mark}
 use Rattle.run_picture.specs.declared.blocks.Block.{Block}
-use Rattle.run_picture.specs.declared.picture.Plot.{Plot}
+use Rattle.run_picture.specs.declared.plots.Plot.{Plot}
 use Rattle.run_picture.specs.Blocks.{arena_blocks}
 use Rattle.run_picture.specs.Charts.{block_marks, AreCharts, all_takings}
 use Rattle.run_picture.specs.Plotting.{kept_marks, plot_marks, taking_count, IsPlot, ArePlots, arenas_in, HasBlocks}

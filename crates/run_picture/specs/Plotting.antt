@@ -7,7 +7,7 @@ use Rattle.run_picture.specs.declared.chart.Chart.{Chart}
 use Rattle.run_picture.specs.declared.marks.Mark.{Mark}
 use Rattle.run_picture.specs.declared.marks.Drawing.{Drawing}
 use Rattle.run_picture.specs.declared.blocks.Block.{Block}
-use Rattle.run_picture.specs.declared.picture.Plot.{Plot}
+use Rattle.run_picture.specs.declared.plots.Plot.{Plot}
 use Rattle.run_picture.specs.Blocks.{arena_blocks}
 use Rattle.run_picture.specs.Charts.{block_mark, is_kept, block_marks, IsChart, AreCharts, all_takings}
 

@@ -2,9 +2,11 @@
 //! A picture of a run, as one SVG: what each chunk of each arena had out at each moment, what the lanes
 //! did then, and what was done to single roots.
 
+mod acts;
 mod axis;
 mod blocks;
 mod chart;
+mod finding;
 mod frame;
 mod history;
 mod lanes;
@@ -15,6 +17,7 @@ mod order;
 mod pen;
 mod picture;
 mod placing;
+mod plots;
 mod returns;
 mod rising;
 mod roots;
@@ -23,6 +26,7 @@ mod strips;
 mod surroundings;
 mod svg;
 mod thinning;
+mod tracks;
 mod uses;
 mod writer;
 

@@ -32,7 +32,7 @@ struct Seen {
 
 // The notes of the lanes as they are gone through.
 #[derive(Drop)]
-struct Play {
+struct Playing {
     seen: Seen,
     next: Vec<usize>,
     order: Order,
@@ -131,7 +131,7 @@ fn takes_time(note: &Note) -> bool {
     )
 }
 
-impl Play {
+impl Playing {
     // The next note of a lane, if it has one.
     fn next_of<'a>(&self, logs: &'a [LaneLog], lane: usize) -> Option<&'a Note> {
         let at = *self.next.get(lane)?;
@@ -192,7 +192,7 @@ fn count_of(logs: &[LaneLog]) -> usize {
 /// One order of all notes. The lanes take turns, a note each, and a lane whose next note may not come
 /// waits; where none can go on, which no pool makes happen, the first goes on all the same.
 pub fn order_of(alloc: Global, logs: &[LaneLog]) -> Result<Order, AllocError> {
-    let mut play = Play {
+    let mut play = Playing {
         seen: Seen::new(alloc),
         next: vec![in alloc; 0; logs.len()]?,
         order: Order {

@@ -1,8 +1,9 @@
 //! What stood in an arena's chunk places, and when: chunks in their lists, and subpages.
 
-ghost use Rattle.std.specs.Prelude.{◌≡◌, ◌<◌, ◌≤◌, ◌^◌, length, IfSome};
+ghost use Rattle.std.specs.Prelude.{◌≡◌, ◌≤◌, ◌^◌};
 ghost use Rattle.pool_law.specs.Limits.{geometry_of};
 
+use crate::finding::{end_of, first_page, place_of, used_of};
 use crate::history::Done;
 use object_steps::{Arena, Sizes};
 use pool_law::{ChunkEnd, Did, ListName, RegionId, Shape};
@@ -44,53 +45,6 @@ struct Digging {
     ends: Vec<ChunkEnd>,
     stays: Vec<Stay>,
     subpages: Vec<Subpage>,
-}
-
-// The line of a chunk.
-fn end_of(ends: &[ChunkEnd], chunk: u32) -> Option<ChunkEnd> {
-    for end in ends {
-        if end.chunk == chunk {
-            return Some(*end);
-        }
-    }
-    None
-}
-
-// The bytes of a chunk that are out, none where there is no chunk.
-fn used_of(ends: &[ChunkEnd], chunk: u32) -> u32 {
-    match end_of(ends, chunk) {
-        Some(end) => end.used,
-        None => 0,
-    }
-}
-
-// Where the subpage stands that begins at a page of a chunk.
-fn place_of(subpages: &[Subpage], chunk: u32, page: u32) -> Option<usize>
-    ensures { IfSome result (λ at. at < length subpages.now) }
-{
-    for at in 0..subpages.len() {
-        if subpages[at].chunk == chunk && subpages[at].page == page {
-            return Some(at);
-        }
-    }
-    None
-}
-
-/// The first page of the subpage of which a region is an element.
-pub fn first_page(sizes: &Sizes, region: &RegionId, pages: u32) -> u32 {
-    let size = sizes.page();
-    let last = region.place.offset / size;
-    for back in 0..pages {
-        let page = last.saturating_sub(back);
-        let within = region
-            .place
-            .offset
-            .saturating_sub(page.saturating_mul(size));
-        if region.place.len != 0 && within % region.place.len == 0 {
-            return page;
-        }
-    }
-    last
 }
 
 impl Digging {

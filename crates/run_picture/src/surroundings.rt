@@ -1,12 +1,13 @@
 //! What stands around the strips of a picture, and what lies under them.
 
 use crate::axis;
-use crate::frame::{chunk_labels, heading, lane_tracks, legend};
+use crate::frame::{chunk_labels, heading, legend};
 use crate::marks::Marks;
 use crate::order::Order;
 use crate::pen::Pen;
-use crate::picture::{GAP, Plot, TOP};
+use crate::plots::{GAP, Plot, TOP};
 use crate::roots::{RootName, track};
+use crate::tracks::lane_tracks;
 use pool_law::Run;
 use std::alloc::{AllocError, Global};
 

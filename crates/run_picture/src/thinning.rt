@@ -1,6 +1,6 @@
 //! Which marks are left out where there are too many.
 
-use crate::picture::Plot;
+use crate::plots::Plot;
 use crate::uses::Span;
 use std::alloc::{AllocError, Global};
 

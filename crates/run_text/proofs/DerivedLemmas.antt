@@ -1,18 +1,15 @@
 -- What is so of a run that its text determines.
 use Rattle.std.proofs.Common.{◌≡◌, ◌≢◌, ℕ, zero, suc, ◌<◌, List, [], ◌∷◌, length, map, get_or, drop, Some, refl, sym, ap, arith, ◌∙◌}
-use Rattle.std.proofs.lemmas.List.{get_or-map, length-map}
+use Rattle.std.proofs.lemmas.List.{get_or-map}
 use Rattle.pool_law.specs.declared.command.Command.{Command}
 use Rattle.pool_law.specs.declared.run.Answered.{Answered}
 use Rattle.pool_law.specs.declared.run.LaneLog.{LaneLog}
 use Rattle.pool_law.specs.declared.run.Run.{Run}
 use Rattle.pool_law.specs.declared.run.Shape.{Shape}
 use Rattle.pool_law.specs.LaneLaw.{IsLaneLog, behind, closes, note_counts}
-use Rattle.pool_law.specs.Legal.{IsLegal, logs_of}
 use Rattle.pool_law.specs.Logs.{Logs, entry_of, entries_of, of_lane}
 use Rattle.pool_law.specs.Readers.{ToldNotes}
 use Rattle.run_check.specs.Cutting.{AreLaneLogs}
-use Rattle.run_text.specs.Derived.{Fits, IsDerived, answers_of, lines_in}
-use Rattle.run_text.specs.Lines.{AreTold}
 
 -- ---- Each lane has notes.
 
@@ -81,20 +78,3 @@ pub run-same : (x y : Run) → x.trace ≡ y.trace → x.shape ≡ y.shape → x
     → x.leaks ≡ y.leaks → x ≡ y
 run-same x y trace shape logs chunks leaks =
     λ i. record { trace = trace i; shape = shape i; logs = logs i; chunks = chunks i; leaks = leaks i }
-
--- ---- A legal run that its lines determine.
-
-pub legal-law : (run : Run) → IsLegal run → AreLaneLogs run.shape run.trace.lanes (answers_of run) (logs_of run)
-legal-law run legal = record {
-  measures = legal.shape;
-  asked = legal.lanes;
-  replied = length-map run.logs (λ (l : LaneLog). l.replies) ∙ legal.logs;
-  logged = length-map run.logs (λ (l : LaneLog). l.notes) ∙ legal.logs;
-  commands = legal.commands;
-  histories = legal.histories;
-  answers = legal.answers;
-}
-
-pub legal-derived : (run : Run) → IsLegal run → AreTold run.shape.arenas (lines_in run) [] (lines_in run) → Fits run
-    → IsDerived run
-legal-derived run legal told fits = record { law = legal-law run legal; told = told; fits = fits }

@@ -18,12 +18,9 @@ use Rattle.run_text.specs.Told.{FitsDid, FitsNote, FitsObject, FitsParcel, FitsP
 use Rattle.run_text.specs.Lines.{Line, of_lane, told_from}
 use Rattle.run_text.specs.Knowing.{FitsLine, line_text}
 use Rattle.run_text.specs.Starting.{AreShown, is_shown, unlines, Begins}
-use Rattle.run_text.proofs.ShownLemmas.{AreShown-append, line_first, shown-append, shown-bytes, shown-cons, shown-decimal, shown-spaced, unlines-append}
+use Rattle.run_text.proofs.ShownLemmas.{AreShown-append, line_first, shown-append, shown-bytes, shown-cons, shown-decimal, shown-spaced, small, unlines-append}
 
 -- ---- Words of notes.
-
-small : (n : ℕ) → n < 2 ^ 32 → is_shown (decimal n) ≡ true
-small n low = shown-decimal n (omega (arith, low))
 
 pair : (mark a b : ℕ) → 31 < mark → a < 2 ^ 32 → b < 2 ^ 32 → is_shown (decimal a ++ mark ∷ decimal b) ≡ true
 pair mark a b high low least =

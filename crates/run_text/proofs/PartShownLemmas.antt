@@ -13,10 +13,7 @@ use Rattle.pool_law.specs.Text.{command_word, dotted, list_word, plus, reply_wor
 use Rattle.run_text.specs.Answering.{FitLanes, FitReplies, FitsReply, lanes_texts, reply_texts}
 use Rattle.run_text.specs.Ending.{FitsAccess, FitsChunk, FitsLeak, access_text, access_words, chunk_text, leak_texts, leak_words, leaks_texts}
 use Rattle.run_text.specs.Starting.{AreShown, is_shown}
-use Rattle.run_text.proofs.ShownLemmas.{AreShown-append, shown-append, shown-bytes, shown-cons, shown-decimal, shown-spaced}
-
-small : (n : ℕ) → n < 2 ^ 32 → is_shown (decimal n) ≡ true
-small n low = shown-decimal n (omega (arith, low))
+use Rattle.run_text.proofs.ShownLemmas.{AreShown-append, shown-append, shown-bytes, shown-cons, shown-decimal, shown-spaced, small}
 
 dot : (a b : ℕ) → a < 2 ^ 64 → b < 2 ^ 64 → is_shown (dotted a b) ≡ true
 dot a b low least =

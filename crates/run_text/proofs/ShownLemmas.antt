@@ -47,6 +47,9 @@ shown-decimal n small =
     last : (d : ℕ) → is_shown ((48 + d) ∷ []) ≡ true
     last d = shown-cons (48 + d) [] (high (48 + d) (omega arith)) refl
 
+pub small : (n : ℕ) → n < 2 ^ 32 → is_shown (decimal n) ≡ true
+small n low = shown-decimal n (omega (arith, low))
+
 pub shown-marked : (mark a b : ℕ) → nat_lt 31 mark ≡ true → a < 2 ^ 64 → b < 2 ^ 64
     → is_shown (decimal a ++ mark ∷ decimal b) ≡ true
 shown-marked mark a b high low least =

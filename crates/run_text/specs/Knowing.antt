@@ -26,7 +26,7 @@ key_cmp a b = ordering_then (nat_cmp a.0 b.0) (nat_cmp a.1 b.1)
 
 -- ---- What a line tells that says something of a root or a region.
 
--- of a taking: its arena, its class, and the region
+-- of a taking: its class, and the region
 abbrev pub class_taken : Said → Option (ℕ × RegionId)
 class_taken (Said.Takes class region) = Some (class, region)
 class_taken (Said.Comes region) = None
@@ -36,6 +36,7 @@ class_taken (Said.Grows region) = None
 class_taken (Said.Ends root) = None
 class_taken Said.Nothing = None
 
+-- of a taking at an object: its arena, its class, and the region
 abbrev pub taking_at : Object → Did → Option (ℕ × ℕ × RegionId)
 taking_at (Object.Arena arena) did = option_map (λ t. (arena, t.0, t.1)) (class_taken (said did))
 taking_at (Object.Cache lane class) did = None
@@ -43,6 +44,7 @@ taking_at (Object.Bin lane) did = None
 taking_at (Object.Mail from to) did = None
 taking_at (Object.Root place) did = None
 
+-- of the note of a taking
 abbrev pub taking_told : Note → Option (ℕ × ℕ × RegionId)
 taking_told (Note.At object number did) = taking_at object did
 taking_told (Note.Ref root did) = None
@@ -60,6 +62,7 @@ birth_at (Object.Bin lane) did = None
 birth_at (Object.Mail from to) did = None
 birth_at (Object.Root place) did = option_map (λ root. placed place root) (born_by (said did))
 
+-- of the note of a birth
 abbrev pub birth_told : Note → Option RootId
 birth_told (Note.At object number did) = birth_at object did
 birth_told (Note.Ref root did) = None
@@ -73,6 +76,7 @@ begin_at (Object.Bin lane) number did = None
 begin_at (Object.Mail from to) number did = None
 begin_at (Object.Root place) number did = option_map (λ r. (place, number, r)) (begun_by (said did))
 
+-- of the note of one of these
 abbrev pub begin_told : Note → Option (ℕ × ℕ × RegionId)
 begin_told (Note.At object number did) = begin_at object number did
 begin_told (Note.Ref root did) = None

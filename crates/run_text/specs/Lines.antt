@@ -29,7 +29,7 @@ abbrev pub last : {X : Type 0} → (Line → Option X) → List Line → Option 
 last says [] = None
 last says (line ∷ lines) = option_or (last says lines) (says line)
 
--- two keys
+-- whether two keys are the same
 abbrev pub same_key : ℕ × ℕ → ℕ × ℕ → Bool
 same_key a b = nat_eq a.0 b.0 && nat_eq a.1 b.1
 
@@ -175,6 +175,7 @@ begun_by Said.Nothing = None
 abbrev pub Begun : Type 0
 Begun = (ℕ × ℕ) × RegionId
 
+-- what a note begins
 abbrev pub begun : Note → Option Begun
 begun (Note.At object number did) =
     option_map (λ r. ((place_of object, number), r)) (begun_by (said did))
@@ -191,14 +192,16 @@ begun_before lines place zero = None
 begun_before lines place (suc number) =
     option_or (last_begun lines (place, number)) (begun_before lines place number)
 
--- the uses that the last of these lines tells of a taking, 0 where none does
+-- the uses of what began, 0 where nothing did
 abbrev pub uses_in : Option Begun → ℕ
 uses_in None = 0
 uses_in (Some b) = b.1.uses
 
+-- what began last to be used of a taking
 abbrev pub last_use : List Line → ℕ × ℕ → Option Begun
 last_use lines key = last (λ line. keyed (λ b. taking_key b.1) key (begun line.1)) lines
 
+-- the uses that the last of these lines tells of a taking, 0 where none does
 abbrev pub uses_after : List Line → ℕ × ℕ → ℕ
 uses_after lines key = uses_in (last_use lines key)
 
@@ -220,12 +223,13 @@ brought_by all object number (Said.Grows region) = Some (left all (place_of obje
 brought_by all object number (Said.Ends root) = Some (left all (place_of object) number)
 brought_by all object number Said.Nothing = None
 
+-- and what comes there by a note
 abbrev pub brought : List Line → Note → Option (Option RegionId)
 brought all (Note.At object number did) = brought_by all object number (said did)
 brought all (Note.Ref root did) = None
 brought all (Note.Busy held) = None
 
--- what came last
+-- the region in hand: what came last
 abbrev pub in_hand : List Line → List Line → Option RegionId
 in_hand all before = unwrap_or (last (λ line. brought all line.1) before) None
 
@@ -248,7 +252,7 @@ abbrev pub IsViewTold : List Line → Option ViewData → Type 0
 IsViewTold all None = Unit {0}
 IsViewTold all (Some v) = last_born all (root_key v.root) ≡ Some v.root
 
--- what was done
+-- what was done is what all lines, and those before it, tell
 abbrev pub IsDidTold : ℕ → List Line → List Line → ℕ → Object → Did → Type 0
 IsDidTold arenas all before lane object (Did.Take class region) =
     (class < class_count all_classes)
@@ -285,7 +289,7 @@ IsDidTold arenas all before lane object (Did.Grow capacity region) =
 IsDidTold arenas all before lane object (Did.End root) =
     (object ≡ Object.Root root.place) × (last_born all (root_key root) ≡ Some root)
 
--- a note
+-- so is a note
 abbrev pub IsTold : ℕ → List Line → List Line → ℕ → Note → Type 0
 IsTold arenas all before lane (Note.At object number did) = IsDidTold arenas all before lane object did
 IsTold arenas all before lane (Note.Ref root did) = last_born all (root_key root) ≡ Some root

@@ -33,6 +33,7 @@ pub fn chunks_of(alloc: Global, lines: &[&str], from: usize, to: usize) -> Resul
     Ok(ChunkEnds::of(chunks))
 }
 
+// A chunk, by the words of its line.
 fn chunk_of(words: &mut Words) -> Result<ChunkEnd, TextNo>
     ensures { (chunk : ChunkEnd) → FitsChunk chunk → words.old.rest.now ≡ chunk_text chunk
         → MatchResult result (λ got. got ≡ chunk) (λ no. no ≡ Memory) }
@@ -53,6 +54,7 @@ fn chunk_of(words: &mut Words) -> Result<ChunkEnd, TextNo>
     })
 }
 
+// A list, by its word.
 fn list_of(words: &mut Words) -> Result<ListName, TextNo>
     ensures { (list : ListName) (more : List Text)
         → words.old.rest.now ≡ spaced (list_word list ∷ more)
@@ -133,6 +135,7 @@ fn leak_of(
     })
 }
 
+// The accesses of a leak, one a line.
 fn records_of(alloc: Global, lines: &[&str], from: usize, to: usize) -> Result<Records, TextNo>
     ensures { (front back : List Text) (records : List Access)
         → map (λ l. l.now) lines.now ≡ front ++ (map access_text records ++ back)

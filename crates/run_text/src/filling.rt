@@ -7,9 +7,10 @@ ghost use Rattle.pool_law.specs.declared.id.ViewData.{ViewData};
 ghost use Rattle.pool_law.specs.declared.note.Did.{Did};
 ghost use Rattle.pool_law.specs.declared.note.Note.{Note};
 ghost use Rattle.run_text.specs.Told.{did_told, note_told, view_told};
-ghost use Rattle.run_text.specs.Lines.{AreTold, IsDidTold, IsTold, IsViewTold, Line, begun, brought, last_born, place_of};
+ghost use Rattle.run_text.specs.Lines.{AreTold, IsDidTold, IsTold, IsViewTold, Line, begun, last_born, place_of};
 ghost use Rattle.run_text.specs.Knowing.{IsAt, line_told, of_region};
 
+mod hands;
 mod named;
 
 use crate::LineNo;
@@ -118,38 +119,6 @@ impl Filler {
         };
         self.passed.insert(taking_key(&region), region.uses)?;
         Ok(())
-    }
-
-    // What comes to a lane's hands by a note: nothing, where a root place leaves a region that isn't known.
-    fn brought(&self, note: &Note) -> Option<Option<RegionId>>
-        ensures { (arenas : ℕ) (all before : List Line) → IsAt arenas all before self.now
-            → result ≡ brought all note.now }
-    {
-        match note {
-            Note::At {
-                did: Did::Take { region, .. },
-                ..
-            } => Some(Some(*region)),
-            Note::At {
-                did: Did::Hit(region),
-                ..
-            } => Some(Some(*region)),
-            Note::At {
-                did: Did::Shed(region),
-                ..
-            } => Some(Some(*region)),
-            Note::At {
-                object,
-                number,
-                did: Did::Grow { .. },
-            } => Some(self.known.left(place_of(object), *number)),
-            Note::At {
-                object,
-                number,
-                did: Did::End(_),
-            } => Some(self.known.left(place_of(object), *number)),
-            _ => None,
-        }
     }
 
     // The root of this place and generation.

@@ -4,14 +4,14 @@ ghost use Rattle.std.specs.Prelude.{◌≡◌, ◌++◌, ◌∷◌, ◌<◌, [],
 ghost use Rattle.std.specs.Option.{option_map, option_or};
 ghost use Rattle.std.specs.BTreeMap as tree;
 ghost use Rattle.std.specs.HashMap as hash;
-ghost use Rattle.pool_law.specs.declared.id.RegionId.{RegionId};
 ghost use Rattle.pool_law.specs.declared.note.Note.{Note};
-ghost use Rattle.size_classes.specs.Sizes.{class_count, size_at};
+ghost use Rattle.size_classes.specs.Sizes.{class_count};
 ghost use Rattle.run_text.specs.Told.{note_told};
 ghost use Rattle.run_text.specs.Lines.{Line, begun_before, formed, keyed, last_born, left, region_with, root_key, same_key, taking_key, uses_after};
-ghost use Rattle.run_text.specs.Knowing.{Knows, TellsTaking, TellsUse, begin_told, birth_told, key_cmp, taking_told, use_of};
+ghost use Rattle.run_text.specs.Knowing.{Knows, TellsTaking, TellsUse, key_cmp, use_of};
 
-use pool_law::{Did, Note, Object, Place, RegionId, RootId};
+use crate::telling::{begin_told, birth_told, taking_told};
+use pool_law::{Note, Place, RegionId, RootId};
 use size_classes::SizeClasses;
 use std::alloc::{AllocError, Global};
 use std::collections::{BTreeMap, HashMap};
@@ -43,57 +43,6 @@ pub struct Use {
     pub taking: TakingKey,
     /// How many uses were made of it, with this one.
     pub uses: u64,
-}
-
-// What the line of a taking tells: its arena, its class, and the region.
-fn taking_told(note: &Note) -> Option<(u32, u32, RegionId)>
-    ensures { result ≡ taking_told note.now }
-{
-    match note {
-        Note::At {
-            object: Object::Arena(arena),
-            did: Did::Take { class, region },
-            ..
-        } => Some((*arena, *class, *region)),
-        _ => None,
-    }
-}
-
-// The root whose birth a line tells.
-fn birth_told(note: &Note) -> Option<RootId>
-    ensures { result ≡ birth_told note.now }
-{
-    match note {
-        Note::At {
-            object: Object::Root(place),
-            did: Did::Birth { root, .. },
-            ..
-        } => Some(RootId {
-            place: *place,
-            generation: root.generation,
-            capacity: root.capacity,
-        }),
-        _ => None,
-    }
-}
-
-// What the line of a birth or a growth tells: the root's place, the number of the note there, and the region.
-fn begin_told(note: &Note) -> Option<(u32, u64, RegionId)>
-    ensures { result ≡ begin_told note.now }
-{
-    match note {
-        Note::At {
-            object: Object::Root(place),
-            number,
-            did: Did::Birth { region, .. },
-        } => Some((*place, *number, *region)),
-        Note::At {
-            object: Object::Root(place),
-            number,
-            did: Did::Grow { region, .. },
-        } => Some((*place, *number, *region)),
-        _ => None,
-    }
 }
 
 /// All roots and regions that the notes of a text tell of.
@@ -181,6 +130,7 @@ impl Known {
         self.learn_begun(begin_told(told))
     }
 
+    // A birth is known, where a line tells one.
     fn learn_birth(&mut self, born: Option<RootId>) -> Result<(), AllocError>
         ensures births { (key : ℕ × ℕ) → OnOk result (hash.get same_key self.new.births key
             ≡ option_or (keyed root_key key born) (hash.get same_key self.old.births key)) }
@@ -192,6 +142,7 @@ impl Known {
         Ok(())
     }
 
+    // A use that begins is known, where a line tells one.
     fn learn_begun(&mut self, begun: Option<(u32, u64, RegionId)>) -> Result<(), AllocError>
         ensures uses { (key : ℕ × ℕ) → OnOk result (hash.get same_key self.new.uses key
             ≡ option_or (option_map (λ b. b.2.uses) (keyed (λ b. taking_key b.2) key begun))

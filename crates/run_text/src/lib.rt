@@ -22,6 +22,7 @@ mod objects;
 mod reading;
 mod regions;
 mod replies;
+mod telling;
 mod words;
 
 pub use reading::read_run;

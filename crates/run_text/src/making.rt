@@ -100,12 +100,12 @@ impl Making {
         ensures { All (λ log. log ≢ []) (notes_in self.logs.items) → result ≡ Some self.logs }
     {
         let Making { logs, .. } = self;
-        if are_some(&logs) { Some(logs) } else { None }
+        if have_notes(&logs) { Some(logs) } else { None }
     }
 }
 
 // Whether each lane has notes.
-fn are_some(logs: &[Vec<Note>]) -> bool
+fn have_notes(logs: &[Vec<Note>]) -> bool
     ensures { All (λ log. log ≢ []) (notes_in logs.now) → result ≡ true }
 {
     for log in logs {

@@ -109,17 +109,6 @@ module _ (pool : SharedPool) where
       cause = may_leave_on left old mid new later goes.cause;
     }
 
-  pub goes_more : (c : Change) (t u : ℕ) (old new : PoolSeat) (left : Begun) → t ≤ u → GoesOn pool t c old new left
-      → GoesOn pool u c old new left
-  goes_more c t u old new left le goes = record {
-    spent = goes.spent;
-    within = (let p = goes.within in omega (arith, p, le));
-    proceeds = goes.proceeds;
-    begun = goes.begun;
-    later = goes.later;
-    cause = goes.cause;
-  }
-
   -- nothing is left
   pub leaves_none : (c : Change) (a u : ℕ) (old new : PoolSeat) → a ≤ u → Proceeds pool empty_hand a 0 c old new
       → IsLater pool old new → GoesOn pool u c old new Nothing

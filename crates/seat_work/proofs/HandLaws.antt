@@ -12,7 +12,7 @@ use Rattle.pool_table.specs.declared.views.SeatView.{SeatView}
 use Rattle.pool_table.specs.Counts.{weigh, on_this, on_place, ref_born, ref_ended, ref_vacated}
 use Rattle.pool_table.specs.Hands.{at_in, at_out, at_birth, ends, from_arena, to_arena, from_cache, to_cache, from_place, to_place}
 use Rattle.shared_pool.specs.Quotas.{quota_from, quota_left, has_closed, is_close}
-use Rattle.shared_pool.proofs.Keeps.{quota_append}
+use Rattle.shared_pool.proofs.CacheQuotas.{quota_append}
 use Rattle.seat_work.specs.Hands.{lane_in, Hand, IsHeld, is_place, is_token, held_weight}
 use Rattle.seat_work.proofs.Grown.{Grows, weigh_more}
 

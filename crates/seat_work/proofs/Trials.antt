@@ -1,5 +1,5 @@
 -- Lemmas for the tests: the seats of a pool with two lanes.
-use Rattle.std.proofs.Common.{◌≡◌, ℕ, ◌+◌, ◌*◌, ◌<◌, List, [], ◌∷◌, zero, suc, length, Option, Some, sym, ap, ◌∙◌, subst, arith}
+use Rattle.std.proofs.Common.{◌≡◌, ℕ, ◌+◌, ◌*◌, ◌<◌, List, [], ◌∷◌, length, Option, sym, ap, ◌∙◌, subst, arith}
 use Rattle.std.specs.Prelude.{HoldsAt, slice_get, slice_index_or, unwrap_or, remove}
 use Rattle.std.proofs.lemmas.List.Edits.{get_or-remove_above}
 use Rattle.shared_pool.specs.declared.seat.PoolSeat.{PoolSeat}
@@ -13,11 +13,8 @@ use Rattle.shared_pool.specs.Mails.{AtMail}
 use Rattle.shared_pool.specs.Opening.{HasRooms, IsOpened}
 use Rattle.pool_table.specs.Letters.{sent_on}
 use Rattle.shared_pool.specs.SeatLanes.{lane_of}
-use Rattle.shared_pool.specs.Seated.{IsDone, AreDone}
 use Rattle.seat_work.specs.HandOvers.{Sends}
-use Rattle.seat_work.specs.Hands.{empty_hand, lane_in}
-use Rattle.seat_work.specs.Works.{Works}
-use Rattle.seat_work.proofs.FirstSeats.{has_nothing}
+use Rattle.seat_work.specs.Hands.{lane_in}
 use Rattle.seat_work.proofs.MailRooms.{room_at}
 
 -- the first two elements of a list, taken out one after the other
@@ -47,15 +44,3 @@ module _ (pool : SharedPool) where
       let a = room_at pool (1 ∷ 1 ∷ 1 ∷ 1 ∷ []) (lane_of s) 1 1 rooms
       (λ i. slice_get (1 ∷ 1 ∷ 1 ∷ 1 ∷ []) (lane i * two i + 1)) d in
       let b = ap (λ (es : List Entry). sent_on (lane_of s) 1 es) opened.notes in omega (arith, a, b)
-
-  -- two seats with nothing in hand are those with which the pool is closed
-  pub both_done : (a b : PoolSeat) → pool.table.layout.shape.lanes ≡ 2 → Works pool empty_hand 0 0 a
-      → Works pool empty_hand 0 0 b → (view_of a).own.number ≡ Some 0 → (view_of b).own.number ≡ Some 1
-      → AreDone pool (a ∷ b ∷ [])
-  both_done a b two x y first second =
-      record { many = sym two; each = λ lane below. at lane (omega (arith, below, two)) }
-    where
-      at : (lane : ℕ) → lane < 2 → HoldsAt (IsDone pool lane) (a ∷ b ∷ []) lane
-      at zero below = λ d. record { seat = x.seat; number = first; nothing = has_nothing (view_of a) x.held }
-      at (suc zero) below = λ d. record { seat = y.seat; number = second; nothing = has_nothing (view_of b) y.held }
-      at (suc (suc n)) below = absurd (omega (arith, below))

@@ -1,26 +1,26 @@
 //! How a buffer is allocated: a handle, a region from the lane's cache or from its arena, and the
 //! birth of a root. (Netty: `PooledByteBufAllocator`, `PoolThreadCache`)
 
-ghost use Rattle.std.specs.Prelude.{◌≡◌, ℕ, ◌*◌, ◌<◌, ◌≤◌, Some, IfSome, IfOk, IfErr};
-ghost use Rattle.size_classes.specs.Sizes.{class_of, size_at};
+ghost use Rattle.std.specs.Prelude.{◌≡◌, ℕ, ◌*◌, ◌<◌, ◌≤◌, Some, IfOk, IfErr};
+ghost use Rattle.size_classes.specs.Sizes.{class_of};
 ghost use Rattle.pool_law.specs.Limits.{geometry_of};
-ghost use Rattle.pool_law.specs.Patterns.{allot, bear as bears};
+ghost use Rattle.pool_law.specs.Patterns.{allot};
 ghost use Rattle.pool_law.specs.Views.{most_capacity};
 ghost use Rattle.pool_table.specs.Counts.{HasCount};
 ghost use Rattle.shared_pool.specs.SeatLanes.{lane_of};
 ghost use Rattle.shared_pool.specs.SeatViews.{view_of};
-ghost use Rattle.seat_work.specs.Hands.{empty_hand, IsHandle, IsRegion};
-ghost use Rattle.seat_work.specs.Readings.{NotesOn};
+ghost use Rattle.seat_work.specs.Hands.{empty_hand, IsHandle};
 ghost use Rattle.seat_work.specs.Works.{HasBorn, IsLater, Proceeds, Works};
 ghost use Rattle.seat_work.specs.Names.{of_name};
-ghost use Rattle.seat_work.specs.Answers.{with_place, with_both, hand_got, handle_told, allocated, with_arena, with_class, with_got, Allots, TookHandle, IsWorn, IsWornAt};
+ghost use Rattle.seat_work.specs.Answers.{with_place, allocated, with_arena, with_class, Allots, IsWorn, IsWornAt};
 
-use crate::birth::bear;
-use crate::ending::{put_handle, return_both};
+use crate::birth::bear_or_return;
+use crate::ending::put_handle;
+use crate::popping::pop_handle;
 use crate::regions::{pop_region, take_region};
 use handle_bin::Handle;
-use pool_law::{Region, RootId, Watch};
-use shared_pool::{PoolSeat, SharedPool, Went, Worn};
+use pool_law::{RootId, Watch};
+use shared_pool::{PoolSeat, SharedPool};
 use size_classes::CACHED_CLASSES;
 use std::sync::Wait;
 
@@ -225,83 +225,4 @@ fn allocate_apart<W: Wait>(
             Err(AllocNo::Full)
         }
     }
-}
-
-// A new root of a handle and a region, or both go back.
-#[inline(always)]
-fn bear_or_return<W: Wait>(
-    rt: &W,
-    pool: &SharedPool,
-    seat: &mut PoolSeat,
-    handle: Handle,
-    region: Region,
-    size: u32,
-    watch: &Option<Watch>,
-) -> Result<RootId, AllocNo>
-    requires works { Works pool.now (with_both handle.place region.id) 3 0 seat.old }
-    requires handle { IsHandle pool.now handle }
-    requires region { IsRegion pool.now seat.old region }
-    requires size { size ≤ size_at region.id.class }
-    ensures proceeds { Proceeds pool.now empty_hand 3 0 (allocated result) seat.old seat.new }
-    ensures root { IfOk result (λ root. (root.capacity ≡ size) × HasCount root (view_of seat.new)) }
-    ensures place { let shape = pool.now.table.layout.shape in
-        IfOk result (λ root. root.place < shape.lanes * shape.handles) }
-    ensures born { IfOk result (λ root. HasBorn pool.now root seat.old seat.new) }
-    ensures later { IsLater pool.now seat.old seat.new }
-    ensures worn { IfErr result (IsWornAt pool.now handle.place seat.old seat.new) }
-    ensures allots { let lane = lane_of seat.old in
-        Allots (bears lane handle.place size (Some region.id)) region.id.class watch.now result
-        (view_of seat.old) (view_of seat.new) }
-{
-    match bear(pool, seat, handle, region, size, watch) {
-        Ok(root) => Ok(root),
-        Err(worn) => {
-            let Worn { handle, region } = worn;
-            return_both(rt, pool, seat, handle, region);
-            Err(AllocNo::Worn)
-        }
-    }
-}
-
-// The next handle of the seat's lane.
-#[inline]
-fn pop_handle<W: Wait>(rt: &W, pool: &SharedPool, seat: &mut PoolSeat) -> Option<Handle>
-    requires { Works pool.now empty_hand 1 0 seat.old }
-    ensures proceeds { Proceeds pool.now (hand_got result) 1 0 (handle_told result)
-        seat.old seat.new }
-    ensures handle { IfSome result (IsHandle pool.now) }
-    ensures later { IsLater pool.now seat.old seat.new }
-    ensures took { IfSome result (λ h. TookHandle pool.now h.place seat.old seat.new) }
-    ensures own { IfSome result (λ h. h.lane ≡ lane_of seat.old) }
-    ensures reads { let shape = pool.now.table.layout.shape in let lane = lane_of seat.old in
-        (size : ℕ) → NotesOn (allot shape lane size) (with_got shape lane size result)
-        (view_of seat.old) (view_of seat.new) }
-{
-    match pool.pop_handle(seat) {
-        Went::Did(_number, handle) => handle,
-        Went::Held(_held, ()) => wait_for_handle(rt, pool, seat),
-    }
-}
-
-// The same, as often as another seat is in the way.
-#[inline(never)]
-fn wait_for_handle<W: Wait>(rt: &W, pool: &SharedPool, seat: &mut PoolSeat) -> Option<Handle>
-    requires { Works pool.now empty_hand 1 0 seat.old }
-    ensures proceeds { Proceeds pool.now (hand_got result) 1 0 (handle_told result)
-        seat.old seat.new }
-    ensures handle { IfSome result (IsHandle pool.now) }
-    ensures later { IsLater pool.now seat.old seat.new }
-    ensures took { IfSome result (λ h. TookHandle pool.now h.place seat.old seat.new) }
-    ensures own { IfSome result (λ h. h.lane ≡ lane_of seat.old) }
-    ensures reads { let shape = pool.now.table.layout.shape in let lane = lane_of seat.old in
-        (size : ℕ) → NotesOn (allot shape lane size) (with_got shape lane size result)
-        (view_of seat.old) (view_of seat.new) }
-{
-    for _ in rt.forever() {
-        match pool.pop_handle(seat) {
-            Went::Did(_number, handle) => return handle,
-            Went::Held(_held, ()) => (),
-        }
-    }
-    unreachable!()
 }

@@ -9,6 +9,7 @@ mod birth;
 mod counts;
 mod ending;
 mod hand_over;
+mod popping;
 mod regions;
 mod regrowth;
 

@@ -22,7 +22,7 @@ use Rattle.shared_composite.specs.declared.home.Origin.{Origin}
 use Rattle.shared_composite.specs.Boards.{AreCores, IsAtHome, IsMadeOf, core_in, origin_of, parts_in}
 use Rattle.shared_composite.specs.Cores.{IsCore, IsFit, IsGetOf, IsKept, roots_of, turns_of}
 use Rattle.share_run.specs.declared.openings.TheConstants.{BOARD_TURNS}
-use Rattle.share_run.specs.Standing.{AreFresh, AreStocked, IsFresh, HasLengths, IsBoardOf, IsCoreOf, IsFilled, IsOfLane}
+use Rattle.share_run.specs.Standing.{AreFresh, AreCoresOf, IsFresh, HasLengths, IsBoardOf, IsCoreOf, IsFilled, IsOfLane}
 use Rattle.share_run.proofs.PartLaws.{posted_more}
 
 -- ---- One core.
@@ -82,16 +82,16 @@ get_push (z ∷ xs) x y (suc k) e =
     elim (get_push xs x y k e) [ inl a ↦ inl a | inr b ↦ inr (omega (arith, b.0), b.1) ]
 
 -- so many composites have their cores
-pub record StockedTo (pool : SharedPool) (composites : List (List (List ℕ))) (n : ℕ) (cores : List Core) : Type 0 where
+pub record CoresTo (pool : SharedPool) (composites : List (List (List ℕ))) (n : ℕ) (cores : List Core) : Type 0 where
   pub many : length cores ≡ n
   pub each : (k : ℕ) (c : Core) → slice_get cores k ≡ Some c
       → IsCoreOf pool k (slice_index_or composites k []) c × (reserve BOARD_TURNS ≤ turns_of c)
 
 module _ (pool : SharedPool) (composites : List (List (List ℕ))) where
-  pub stocked_more : (n : ℕ) (cores : List Core) (c : Core) → StockedTo pool composites n cores
+  pub cores_more : (n : ℕ) (cores : List Core) (c : Core) → CoresTo pool composites n cores
       → IsCoreOf pool n (slice_index_or composites n []) c × (reserve BOARD_TURNS ≤ turns_of c)
-      → StockedTo pool composites (n + 1) (cores ++ c ∷ [])
-  stocked_more n cores c was one = record {
+      → CoresTo pool composites (n + 1) (cores ++ c ∷ [])
+  cores_more n cores c was one = record {
     many = (let a = length-append cores (c ∷ []) in let b = was.many in omega (arith, a, b));
     each = λ k d e.
         elim (get_push cores c d k e) [
@@ -103,14 +103,14 @@ module _ (pool : SharedPool) (composites : List (List (List ℕ))) where
         ];
   }
 
-  pub stocked_seats : (n : ℕ) (cores : List Core) → StockedTo pool composites n cores
+  pub cores_seats : (n : ℕ) (cores : List Core) → CoresTo pool composites n cores
       → All (λ (c : Core). IsPoolSeat pool c.seat) cores
-  stocked_seats n cores was k d lt =
+  cores_seats n cores was k d lt =
       (was.each k (get_or cores k d) (slice_get-get_or cores k d lt)).0.core_is.fit.seat_is
 
-  pub are_cores : (cores : List Core) → AreStocked pool composites cores → AreCores pool BOARD_TURNS cores
-  are_cores cores stocked k d lt =
-      let one = stocked.each k (get_or cores k d) (slice_get-get_or cores k d lt) in (one.0.core_is, one.1)
+  pub are_cores : (cores : List Core) → AreCoresOf pool composites cores → AreCores pool BOARD_TURNS cores
+  are_cores cores all_cores k d lt =
+      let one = all_cores.each k (get_or cores k d) (slice_get-get_or cores k d lt) in (one.0.core_is, one.1)
 
 -- ---- The board.
 
@@ -152,13 +152,13 @@ kept_core pool lane inputs made core was kept is = record {
 }
 
 module _ (board : Board) (pool : SharedPool) (composites : List (List (List ℕ))) (cores : List Core)
-    (stocked : AreStocked pool composites cores) (made : IsMadeOf board pool BOARD_TURNS cores) where
+    (all_cores : AreCoresOf pool composites cores) (made : IsMadeOf board pool BOARD_TURNS cores) where
   first_core : (k : ℕ) (origin : Origin) (c : Core) → origin_of board ≡ Some origin
       → slice_get origin.cores k ≡ Some c → IsCoreOf pool k (slice_index_or composites k []) c
   first_core k origin c is there =
       let first : slice_get cores k ≡ Some c =
       sym (made.cores_are k) ∙ ap (λ (o : Option Origin). core_in o k) is ∙ there in
-      (stocked.each k c first).0
+      (all_cores.each k c first).0
 
   same_pool : (origin : Origin) → origin_of board ≡ Some origin → origin.pool ≡ pool
   same_pool origin is =
@@ -177,11 +177,11 @@ module _ (board : Board) (pool : SharedPool) (composites : List (List (List ℕ)
   board_of = record {
     pool_is = made.pool_is;
     turns = made.turns_are;
-    many = made.composites ∙ stocked.many;
+    many = made.composites ∙ all_cores.many;
     sizes = λ k lt.
-        (let c = item-at cores k (let a = stocked.many in omega (arith, a, lt)) in
+        (let c = item-at cores k (let a = all_cores.many in omega (arith, a, lt)) in
         ap size_of (ap parts_in (made.cores_are k ∙ c.1))
-        ∙ ap (λ (ns : List ℕ). sum ns) (stocked.each k c.0 c.1).0.lens
+        ∙ ap (λ (ns : List ℕ). sum ns) (all_cores.each k c.0 c.1).0.lens
         ∙ sym (length_concat (slice_index_or composites k [])));
     cores = at_home;
   }

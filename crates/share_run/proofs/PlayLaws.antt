@@ -25,7 +25,7 @@ use Rattle.share_text.specs.declared.inputs.Input.{Input}
 use Rattle.share_run.specs.declared.openings.TheConstants.{BOARD_TURNS, SEAT_TURNS}
 use Rattle.share_run.specs.declared.readers.Reader.{Reader}
 use Rattle.share_run.specs.Reading.{HaveSeen, asked_in, asked_of, moves_for}
-use Rattle.share_run.specs.Standing.{AreBounded, AreFresh, AreStocked, IsBoardOf, IsFresh, layout_of}
+use Rattle.share_run.specs.Standing.{AreBounded, AreFresh, AreCoresOf, IsBoardOf, IsFresh, layout_of}
 use Rattle.share_run.proofs.BoardLaws.{board_of}
 
 -- ---- Limits.
@@ -92,19 +92,19 @@ opened_fresh pool lanes mail seats opened k s there =
 -- ---- The board of cores.
 
 pub opened_board : {E : Type 0} (here pool : SharedPool) (composites : List (List (List ℕ))) (cores : List Core)
-    (r : Result (Board × BoardSeat) E) → here ≡ pool → AreStocked pool composites cores
+    (r : Result (Board × BoardSeat) E) → here ≡ pool → AreCoresOf pool composites cores
     → IfOk r (λ x. IsMadeOf x.0 here BOARD_TURNS cores) → IfOk r (λ x. IsBoardOf x.0 pool composites)
-opened_board here pool composites cores (Ok x) same stocked made =
-    board_of x.0 pool composites cores stocked
+opened_board here pool composites cores (Ok x) same all_cores made =
+    board_of x.0 pool composites cores all_cores
     (subst (λ (p : SharedPool). IsMadeOf x.0 p BOARD_TURNS cores) same made)
-opened_board here pool composites cores (Err e) same stocked made = tt
+opened_board here pool composites cores (Err e) same all_cores made = tt
 
 -- cores that come back have seats of the pool
-pub stocked_seats : (pool : SharedPool) (composites : List (List (List ℕ))) (cores back : List Core)
-    → AreStocked pool composites cores → back ≡ cores → All (λ (c : Core). IsPoolSeat pool c.seat) back
-stocked_seats pool composites cores back stocked same =
+pub cores_seats : (pool : SharedPool) (composites : List (List (List ℕ))) (cores back : List Core)
+    → AreCoresOf pool composites cores → back ≡ cores → All (λ (c : Core). IsPoolSeat pool c.seat) back
+cores_seats pool composites cores back all_cores same =
     subst (All (λ (c : Core). IsPoolSeat pool c.seat)) (sym same)
-    (λ k d lt. (stocked.each k (get_or cores k d) (slice_get-get_or cores k d lt)).0.core_is.fit.seat_is)
+    (λ k d lt. (all_cores.each k (get_or cores k d) (slice_get-get_or cores k d lt)).0.core_is.fit.seat_is)
 
 pub no_seats : (pool : SharedPool) (seats : List PoolSeat) → seats ≡ [] → All (IsPoolSeat pool) seats
 no_seats pool seats none = subst (All (IsPoolSeat pool)) (sym none) (All-nil (IsPoolSeat pool))

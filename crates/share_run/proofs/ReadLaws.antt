@@ -1,16 +1,14 @@
 -- What reads and releases leave of a reader's seat.
-use Rattle.std.proofs.Common.{◌≡◌, ℕ, ◌+◌, ◌-◌, ◌<◌, Bool, ◌==◌, List, [], ◌∷◌, ◌++◌, length, map, take, drop, get_or, set, refl, sym, ap, ◌∙◌, arith, eq-eqb}
+use Rattle.std.proofs.Common.{◌≡◌, ℕ, ◌+◌, ◌-◌, ◌<◌, ◌==◌, List, [], ◌∷◌, ◌++◌, length, map, take, drop, get_or, set, sym, ap, ◌∙◌, arith}
 use Rattle.std.specs.Prelude.{All, if◌then◌else◌}
 use Rattle.std.proofs.lemmas.List.{map-append, take_more, take_more_set}
-use Rattle.std.proofs.lemmas.List.Sums.{sum_by-cons}
-use Rattle.board_table.specs.declared.views.BoardView.{BoardView}
 use Rattle.board_table.specs.Seats.{Counts}
 use Rattle.board_table.specs.Views.{done, released, spent}
 use Rattle.shared_composite.specs.declared.board.Board.{Board}
 use Rattle.shared_composite.specs.declared.board.BoardSeat.{BoardSeat}
 use Rattle.shared_composite.specs.Boards.{HasView, IsSeatOf, view_of}
 use Rattle.share_text.specs.declared.lines.Seen.{Seen}
-use Rattle.share_run.specs.Reading.{Covers, Keeps, Names, asked_in, seen_whole, times_in}
+use Rattle.share_run.specs.Reading.{Covers, Keeps, asked_in, seen_whole}
 use Rattle.share_run.proofs.DealLaws.{view_is}
 use Rattle.share_run.proofs.ListSteps.{left_more, length_set, next_item}
 use Rattle.share_run.proofs.Views.{counts_of, done_counts, spent_done}
@@ -35,17 +33,6 @@ module _ (board : Board) (k : ℕ) (old new : BoardSeat) (own : IsSeatOf board n
         counts = λ j. ap (counts_of j) is ∙ done_counts k (view_of old) has j;
         spent = ap spent is ∙ spent_done k (view_of old) has turn;
       }
-
-  pub turns_same : HasView new (view_of old) → (view_of new).turns ≡ (view_of old).turns
-  turns_same view = ap (λ (v : BoardView). v.turns) (view_is new (view_of old) view)
-
--- what is covered is counted
-pub covers_counts : (names : List ℕ) (v : BoardView) (k : ℕ) → Covers names v → 0 < times_in k names → Counts k v
-covers_counts names v k covers has = let a = covers k in omega (arith, a, has)
-
-pub all_counted : (names : List ℕ) (seen : List Seen) (v : BoardView) → Covers names v → Names names seen
-    → All (λ (s : Seen). Counts s.composite v) seen
-all_counted names seen v covers has k d lt = covers_counts names v (get_or seen k d).composite covers (has k d lt)
 
 -- ---- All reads, one after another.
 
@@ -75,19 +62,3 @@ module _ (wholes : List (List ℕ)) where
             ∙ ap (λ (xs : List Seen). map (seen_whole wholes) (asked_in xs)) (sym (take_more old at d below));
         left = left_more at old new s to.left;
       }
-
--- ---- Releases.
-
-module _ (k : ℕ) (names : List ℕ) (old new : BoardSeat) (covers : Covers (k ∷ names) (view_of old))
-    (is : view_of new ≡ released k (view_of old)) where
-  counted : Counts k (view_of old)
-  counted =
-      let a = covers k in let b = sum_by-cons (λ n. if n == k then 1 else 0) k names in
-      let c : ◌≡◌ {A = ℕ} (if k == k then 1 else 0) 1 = ap (λ (t : Bool). if t then 1 else 0) (eq-eqb k k refl) in
-      omega (arith, a, b, c)
-
-pub first_counted : (k : ℕ) (names : List ℕ) (v : BoardView) → Covers (k ∷ names) v → Counts k v
-first_counted k names v covers =
-    let a = covers k in let b = sum_by-cons (λ n. if n == k then 1 else 0) k names in
-    let c : ◌≡◌ {A = ℕ} (if k == k then 1 else 0) 1 = ap (λ (t : Bool). if t then 1 else 0) (eq-eqb k k refl) in
-    omega (arith, a, b, c)

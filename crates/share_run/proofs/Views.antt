@@ -6,7 +6,7 @@ use Rattle.std.proofs.lemmas.List.Folds.{sum_by-replicate}
 use Rattle.std.proofs.lemmas.List.Sums.{sum_by-set}
 use Rattle.board_table.specs.declared.views.Stake.{Stake}
 use Rattle.board_table.specs.declared.views.BoardView.{BoardView}
-use Rattle.board_table.specs.Views.{no_stake, more, less, stake_of, spent, first_view, retained, released, ended, hand_left, handed, joined, done, took}
+use Rattle.board_table.specs.Views.{no_stake, more, less, stake_of, spent, first_view, retained, ended, hand_left, handed, joined, done, took}
 use Rattle.board_table.proofs.Stakes.{within, each_stake, may_enter}
 use Rattle.board_table.proofs.CountSteps.{field_sum}
 use Rattle.board_table.proofs.Seatings.{added_at, added_sum}
@@ -118,20 +118,6 @@ module _ (k : ℕ) (v : BoardView) (has : 0 < counts_of k v) where
 
   pub left_other : (turns j : ℕ) → j ≢ k → counts_of j (hand_left k turns v) ≡ counts_of j v
   left_other turns j ne = ap (λ (x : Stake). x.counts) (other_is (less (stake_of k v)) j ne)
-
-  -- a count less
-  pub spent_released : spent (released k v) ≡ spent v
-  spent_released =
-      let a : sum_by sections (released k v).stakes + sections (stake_of k v)
-      ≡ sum_by sections v.stakes + sections (stake_of k v) =
-      field_sum sections k v (less (stake_of k v)) there in
-      omega (arith, a)
-
-  pub released_own : counts_of k (released k v) ≡ counts_of k v - 1
-  released_own = ap (λ (x : Stake). x.counts) (own_is (less (stake_of k v)))
-
-  pub released_other : (j : ℕ) → j ≢ k → counts_of j (released k v) ≡ counts_of j v
-  released_other j ne = ap (λ (x : Stake). x.counts) (other_is (less (stake_of k v)) j ne)
 
   -- and by the last one the mark
   abbrev ended_stake : Stake

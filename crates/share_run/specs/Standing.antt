@@ -128,7 +128,7 @@ pub record IsCoreOf
   pub lens : HasLengths inputs core.parts
 
 -- of each composite of the input its core, with the turns that all reads need
-pub record AreStocked
+pub record AreCoresOf
     (pool : SharedPool) (composites : List (List (List ℕ))) (cores : List Core) : Type 0 where
   pub many : length cores ≡ length composites
   pub each : (k : ℕ) (c : Core) → slice_get cores k ≡ Some c →

@@ -9,6 +9,7 @@ use text_ends::{StdSink, StdSource};
 
 mod answer;
 mod closing;
+mod cores;
 mod dealing;
 mod openings;
 mod parts;
@@ -16,7 +17,6 @@ mod play;
 mod readers;
 mod reading;
 mod run;
-mod stock;
 mod wholes;
 
 use answer::Status;

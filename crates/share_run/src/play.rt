@@ -8,15 +8,15 @@ ghost use Rattle.shared_pool.specs.declared.pool.SharedPool.{SharedPool};
 ghost use Rattle.share_text.specs.Inputs.{IsFew, IsInput, composite_limit, read_count, read_limit, reader_limit};
 ghost use Rattle.share_text.specs.Lines.{seen_of, text_of};
 ghost use Rattle.share_run.specs.declared.openings.TheConstants.{BOARD_MOVES, BOARD_TURNS};
-ghost use Rattle.share_run.specs.Standing.{AreBounded, AreSpent, AreStocked, IsBoardOf};
+ghost use Rattle.share_run.specs.Standing.{AreBounded, AreSpent, AreCoresOf, IsBoardOf};
 ghost use Rattle.share_run.specs.Reading.{AreBlank, HaveSeen, asked_of};
 
 use crate::closing::{close, end_all};
+use crate::cores::{give_up, make_cores};
 use crate::dealing::{deal_all, gather};
 use crate::openings::{BOARD_MOVES, BOARD_TURNS, ORDER, open};
 use crate::readers::{Reader, readers_of};
 use crate::reading::run_all;
-use crate::stock::{give_up, stock};
 use crate::wholes::wholes_of;
 use pool_law::Bytes;
 use share_text::{Input, Parts, SeenList, text_with};
@@ -79,7 +79,7 @@ fn play_in_pool<R: Threads + Wait + Sync>(
 {
     let sizes = SizeClasses::new(alloc, ORDER, DEFAULT_PAGE)?;
     let (pool, mut seats) = open(alloc, composites.len() as u32)?;
-    match stock(rt, alloc, &pool, &mut seats, &sizes, composites) {
+    match make_cores(rt, alloc, &pool, &mut seats, &sizes, composites) {
         Ok(cores) => match board_of(alloc, &pool, composites, cores) {
             Ok((board, chief)) => {
                 meet(
@@ -112,7 +112,7 @@ fn board_of(
     ghost here: { SharedPool }
     requires same { here ≡ pool.now }
     requires few { IsFew composite_limit composites.now }
-    requires stocked { AreStocked pool.now composites.now cores.items }
+    requires cores { AreCoresOf pool.now composites.now cores.items }
     ensures board { IfOk result (λ r. IsBoardOf r.0 pool.now composites.now) }
     ensures own { IfOk result (λ r. IsSeatOf r.0 r.1) }
     ensures view { IfOk result (λ r.

@@ -14,9 +14,9 @@ use Rattle.crossbeam_queue.specs.contracts.array_queue.Doing as Doing
 use Rattle.board_table.proofs.table.BoardTable.TheSendSync as table
 use Rattle.composite_buf.specs.contracts.composite.Composite as Composite
 use Rattle.composite_buf.proofs.composite.Composite.TheSendSync.{the_sync as composite_sync}
-use Rattle.pool_table.specs.contracts.spot.Spot as Spot
+use Rattle.pool_table.specs.contracts.bare_slot.BareSlot as BareSlot
 use Rattle.pool_table.specs.contracts.table.PoolSeat as TableSeat
-use Rattle.pool_table.proofs.spot.Spot.TheSendSync.{the_send as spot_send}
+use Rattle.pool_table.proofs.bare_slot.BareSlot.TheSendSync.{the_send as bare_slot_send}
 use Rattle.pool_table.proofs.views.Letter.TheSendSync.{the_sync as letter_sync}
 use Rattle.shared_pool.specs.contracts.home.Home as Object
 use Rattle.shared_pool.specs.contracts.told.HomeTold.TheImpl as told
@@ -39,8 +39,8 @@ list_sync : (E : RattleType) → IsSync E → IsSync (as_row (Vec.the_field E He
 list_sync E s = as_row_sync (Vec.the_field E Heap.the_row ghosts) (std.Vec-sync E s)
 
 -- ---- The seats of a pool.
-object_slot_send : IsSend (Spot.the_row Object.the_row)
-object_slot_send = spot_send Object.the_row object_send
+object_slot_send : IsSend (BareSlot.the_row Object.the_row)
+object_slot_send = bare_slot_send Object.the_row object_send
 
 posted_slot_send : IsSend (Option.the_row Posted.the_row)
 posted_slot_send = search (posted_send, sendable) depth 30

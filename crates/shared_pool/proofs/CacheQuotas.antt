@@ -274,3 +274,12 @@ module _ (l : Layout) (lane class : ℕ) (fits : IsObjectOf l.shape (Cache lane 
       at_note false true true rest = refl
       at_note false true false rest = refl
       at_note false false close rest = refl
+
+-- a quota over two lists of entries
+pub quota_append : (lane class quota : ℕ) (xs ys : List Entry)
+    → quota_from lane class quota (xs ++ ys) ≡ quota_from lane class (quota_from lane class quota xs) ys
+quota_append lane class quota [] ys = refl
+quota_append lane class quota (At o k n ∷ xs) ys =
+    quota_append lane class (if same_object o (Cache lane class) then quota_after quota n.did else quota) xs ys
+quota_append lane class quota (Ref r d ∷ xs) ys = quota_append lane class quota xs ys
+quota_append lane class quota (Busy b ∷ xs) ys = quota_append lane class quota xs ys

@@ -1,5 +1,5 @@
 -- What is known of a pool as it closes, from what the table's close told.
-use Rattle.std.proofs.Common.{◌≡◌, ℕ, ◌+◌, ◌*◌, List, sym, ap, ◌∙◌, subst, refl, arith, Some, None}
+use Rattle.std.proofs.Common.{◌≡◌, ℕ, ◌+◌, ◌*◌, List, sym, ap, ◌∙◌, subst, refl, Some, None}
 use Rattle.std.specs.Prelude.{◌≤◌, Option, length}
 use Rattle.step_law.specs.Settings.{Setting}
 use Rattle.size_classes.specs.Sizes.{IsPage, below}
@@ -83,13 +83,6 @@ module _ (pool : SharedPool) (seats : List PoolSeat) (was : WereDone pool seats)
       subst (λ (ps : List Part). AreLiveRoots ps (told_from shape homes words (below (shape.lanes * shape.handles))))
       parts
       (live_told pool.table.layout v homes words closed lanes found.0 found.1 none tokens)
-
-  -- there is a home value for each arena, and more
-  pub many : shape.arenas ≤ length homes
-  many =
-      let y : ℕ = shape.lanes * shape.handles in
-      let e : length homes ≡ shape.arenas + shape.lanes * 41 + y = closed.home_count in
-      omega (arith, e)
 
   pub out : AreOut shape.arenas homes (left_of homes)
   out =

@@ -47,7 +47,6 @@ pub mod PlaceBirths
 pub mod PlaceCalls
 pub mod BirthCalls
 pub mod PlaceEnds
-pub mod Keeps
 pub mod SeatShares
 pub mod JoinedParts
 pub mod LastChunks

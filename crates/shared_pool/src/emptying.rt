@@ -4,8 +4,8 @@ ghost use Rattle.std.specs.Prelude.{◌≡◌, ◌≤◌, ◌++◌, ◌∷◌, [
 ghost use Rattle.shared_pool.specs.Emptying.{Left, left_at, left_of, left_of_cache, left_of_place, AreOut, IsResting, MayGive, GivesAt};
 
 use crate::home::Home;
-use crate::opening::spend;
 use crate::root_place::{Held, RootPlace};
+use crate::spent_homes::spend;
 use pool_law::{Region, RegionId};
 use region_cache::Cache;
 

@@ -4,6 +4,8 @@
 
 mod arenas;
 mod bins;
+mod births;
+mod cache_sections;
 mod caches;
 mod closing;
 mod counts;
@@ -32,6 +34,7 @@ mod seat;
 mod share;
 mod shares;
 mod spares;
+mod spent_homes;
 mod told;
 mod went;
 

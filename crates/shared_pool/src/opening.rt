@@ -7,8 +7,9 @@ ghost use Rattle.shared_pool.specs.Opening.{IsFirstArena, IsCacheOf, IsFirstCach
 use crate::dealing::{SeatRoom, new_mails};
 use crate::home::Home;
 use crate::pool::SharedPool;
-use crate::root_place::{Held, Root, RootPlace};
+use crate::root_place::{Root, RootPlace};
 use crate::seat::{PoolSeat, TableSeat};
+use crate::spent_homes::{spend, spend_all};
 use handle_bin::Bin;
 use pool_arena::Arena;
 use pool_law::Shape;
@@ -220,37 +221,5 @@ fn root_home(alloc: Global) -> Result<Home, AllocError>
             spend_place(value);
             Err(AllocError)
         }
-    }
-}
-
-// Spends home values. Their memory stays taken until the program ends.
-fn spend_all(mut homes: Vec<Home>) {
-    while let Some(home) = homes.pop() {
-        spend(home);
-    }
-    homes.destroy_empty();
-}
-
-pub(crate) fn spend(home: Home) {
-    match home {
-        Home::Arena(arena) => Box::into_inner(arena).leave(),
-        Home::Cache(cache) => Box::into_inner(cache).leave(),
-        Home::Bin(bin) => Box::into_inner(bin).leave(),
-        Home::Root(place) => spend_place(Box::into_inner(place)),
-    }
-}
-
-fn spend_place(place: RootPlace) {
-    let RootPlace {
-        generation: _,
-        last: _,
-        present,
-    } = place;
-    match present {
-        Some(Held { piece, handle }) => {
-            piece.leave();
-            handle.leave();
-        }
-        None => (),
     }
 }

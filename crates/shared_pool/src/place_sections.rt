@@ -94,7 +94,7 @@ pub(crate) fn show<R, F: FnOnce(&[u8]) -> R>(
     let Home::Root(place) = Section::home(section) else {
         unreachable!()
     };
-    place.with_bytes(lane, offset, len, f)
+    place.show(lane, offset, len, f)
 }
 
 // Whether the place of a section has no name left for another root.

@@ -10,6 +10,7 @@ mod play;
 mod scene;
 mod top;
 mod workers;
+mod written;
 
 pub use answer::{Outcome, Status};
 pub use gates::OpenGate;

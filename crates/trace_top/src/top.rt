@@ -1,25 +1,24 @@
-//! The top call, part by part: words, source or generated trace, run, sink.
-ghost use Rattle.std.specs.Prelude.{◌≡◌, ◌≤◌, All, None, Some, map, string_bytes, length, IfOk, IfSome};
-ghost use Rattle.lane_core.specs.Played.{IsHeeded, IsPlayed};
+//! The top call, part by part: words, source or generated trace, run.
+ghost use Rattle.std.specs.Prelude.{◌≡◌, ◌≤◌, None, map, string_bytes, length, IfSome};
+ghost use Rattle.lane_core.specs.Played.{IsHeeded};
 ghost use Rattle.order_laws.specs.HeadlineInOrder.{HeadlineInOrder};
 ghost use Rattle.trace_make.specs.Generated.{generated};
 ghost use Rattle.pool_law.specs.Traces.{AreLanes};
-ghost use Rattle.trace_top.specs.Outcomes.{Completes, Explains, ExplainsOptions, ExplainsRun, ExplainsSource, ExplainsText, Refuses, text_for};
+ghost use Rattle.trace_top.specs.Outcomes.{Completes, Explains, ExplainsOptions, ExplainsRun, ExplainsSource, ExplainsText, Refuses};
 ghost use Rattle.text_ends.specs.Spans.{sink_span, source_span};
 ghost use Rattle.trace_text.specs.Options.{AreOptions};
-ghost use Rattle.run_words.specs.Pools.{AreSound, shape_of};
+ghost use Rattle.run_words.specs.Pools.{AreSound};
 ghost use Rattle.run_words.specs.Words.{IsGeneration, IsOrigin, options_of};
 
 use crate::answer::{Outcome, Status, bare};
 use crate::play::play;
-use lane_core::{Gate, Played};
-use pool_law::{Bytes, Options, Trace};
-use run_report::{summary_of, text_of};
+use crate::written::with_run;
+use lane_core::Gate;
 use run_words::{Generation, Origin, RunOptions, read_for, read_words, shape};
 use std::alloc::{AllocError, Global};
 use std::sync::Wait;
 use std::thread::Threads;
-use text_ends::{Input, Output, Sink, Source, read_all, write_all};
+use text_ends::{Input, Sink, Source, read_all};
 use trace_make::make;
 use trace_text::{Read, TraceNo};
 
@@ -227,51 +226,5 @@ fn with_trace<R: Threads + Wait + Sync, K: Sink, G: Gate>(
     match play(rt, alloc, trace, &shape, options.workers, gate) {
         Ok(played) => with_run(alloc, options, &pool, played, out),
         Err(_) => bare(Status::Memory),
-    }
-}
-
-#[tactic(auto, unfolding(crate::specs::Outcomes::ExplainsRun))]
-fn with_run<K: Sink>(
-    alloc: Global,
-    options: &RunOptions,
-    pool: &Options,
-    played: Played,
-    out: &mut K,
-) -> Outcome
-    requires shape { played.shape ≡ shape_of pool.now (length played.trace.lanes) }
-    ensures outcome { ExplainsRun result.status result options.now (played.trace.lanes, pool.now)
-        (sink_span K.got K.faults K.empty_takes out.old out.new) }
-    ensures same { IfSome result.run (λ run. run ≡ played) }
-{
-    let Ok(text) = text_for(alloc, options, &played) else {
-        return bare(Status::Memory);
-    };
-    match write_all(out, text.items()) {
-        Output::Fault => ended(Status::WriteFault, played),
-        Output::Whole if played.run().leaks.items().is_empty() => ended(Status::Whole, played),
-        Output::Whole => ended(Status::Leaks, played),
-    }
-}
-
-// What is to be written of a run: its text, or its summary where its trace is generated.
-fn text_for(alloc: Global, options: &RunOptions, played: &Played) -> Result<Bytes, AllocError>
-    ensures text { IfOk result (λ bytes. bytes ≡ text_for options.now played.now) }
-    ensures played { IsPlayed played.now }
-{
-    let run = played.run();
-    match options.origin {
-        Origin::Source => text_of(alloc, run, options.history),
-        Origin::Generated(generation) => summary_of(alloc, run, generation.start),
-    }
-}
-
-// The outcome with this run.
-fn ended(status: Status, played: Played) -> Outcome
-    ensures { result ≡ record { status = status; run = Some played; refusal = None } }
-{
-    Outcome {
-        status,
-        run: Some(played),
-        refusal: None,
     }
 }

@@ -11,31 +11,16 @@ pub struct EventCount {
     asleep: AtomicU64,
     /// How many threads have begun to help.
     helpers: AtomicU64,
-    looks: u32,
-    moves: u32,
 }
 
 impl EventCount {
-    /// No change was counted. A worker is to look so often again before it brings a machine back, and
-    /// counts a change after so many moves of one that goes on for long.
-    pub fn new(looks: u32, moves: u32) -> EventCount {
+    /// No change was counted, and no thread has begun to help.
+    pub fn new() -> EventCount {
         EventCount {
             changes: AtomicU64::new(0),
             asleep: AtomicU64::new(0),
             helpers: AtomicU64::new(0),
-            looks,
-            moves,
         }
-    }
-
-    /// How often a worker looks again whether its machine can go on, before it brings it back.
-    pub fn looks(&self) -> u32 {
-        self.looks
-    }
-
-    /// After how many moves of one machine a change is counted.
-    pub fn moves(&self) -> u32 {
-        self.moves
     }
 
     /// A thread begins to help: a change.

@@ -6,6 +6,9 @@
 mod event_count;
 mod idler;
 mod machine;
+mod own;
+mod pace;
+mod shares;
 mod steps;
 mod table;
 mod worker;

@@ -4,6 +4,7 @@ ghost use Rattle.work_table.specs.Places.{BelongsAt, IsSameRelation};
 
 use crate::event_count::EventCount;
 use crate::machine::{Machine, Stepped};
+use crate::pace::Pace;
 use crate::table::{Playing, Status, Table};
 use std::alloc::AllocError;
 use std::hint::spin_loop;
@@ -19,13 +20,14 @@ const LOOKS: u32 = 16;
 #[derive(Drop)]
 pub struct Worker<T: Ledger> {
     pub share: Share<T>,
+    pub pace: Pace,
     ghost one_part: { share.parts ≡ 1 },
     ghost none_out: { share.amount ≡ 0 },
 }
 
 /// What a turn of a worker did.
 #[derive(Clone, Copy, PartialEq, Eq, Debug)]
-enum Turn {
+pub enum Turn {
     /// It stepped the machine at the place before this one.
     Stepped(usize),
     /// No machine could go on, when so many changes had been counted.
@@ -44,85 +46,17 @@ pub fn work<E, M: Machine<E>, T: Playing<M>, R: Wait>(
 )
     requires { IsSameRelation T.comes (M.comes shared.now) }
 {
+    let pace = worker.pace;
     let mut from = 0;
     let mut idle = 0u32;
     for _ in rt.forever() {
-        match take_turn(rt, shared, table, changes, from, &mut worker.share) {
+        match take_turn(rt, shared, table, changes, pace, from, &mut worker.share) {
             Turn::Stepped(next) => {
                 from = next;
                 idle = 0;
             }
             Turn::Idle(seen) => idle = rest(rt, changes, idle, seen),
             Turn::Over => return,
-        }
-    }
-}
-
-/// The same, and before each turn it steps `own`, which no other worker does, until that cannot go
-/// on. Where the table is over first it stands as it stands. With `until_helped` it leaves the table
-/// once another thread has begun to help.
-pub fn work_beside<E, O: Machine<E>, M: Machine<E>, T: Playing<M>, R: Wait>(
-    rt: &R,
-    shared: &E,
-    own: &mut O,
-    table: &Mutex<ManuallyDrop<Table<M, T>>>,
-    changes: &EventCount,
-    worker: &mut Worker<T>,
-    until_helped: bool,
-)
-    requires relation { IsSameRelation T.comes (M.comes shared.now) }
-    requires own { (first : O) × O.comes shared.now first own.old }
-    ensures { (first : O) → O.comes shared.now first own.old → O.comes shared.now first own.new }
-{
-    let mut from = 0;
-    let mut idle = 0u32;
-    let mut status = Status::Ready;
-    for _ in rt.forever() {
-        if until_helped && changes.has_help() {
-            return;
-        }
-        if status.can_go(changes.read()) {
-            status = go_on(rt, shared, changes, own);
-            tell(rt, table, changes, status);
-            idle = 0;
-        }
-        match take_turn(rt, shared, table, changes, from, &mut worker.share) {
-            Turn::Stepped(next) => {
-                from = next;
-                idle = 0;
-            }
-            Turn::Idle(seen) => {
-                if !status.can_go(seen) {
-                    idle = rest(rt, changes, idle, seen);
-                }
-            }
-            Turn::Over => return,
-        }
-    }
-}
-
-/// This worker steps `own` alone, which no other does, until the table is over: each machine of the
-/// table has a worker of its own. Where the table is over first `own` stands as it stands.
-pub fn work_alone<E, O: Machine<E>, M, T: Playing<M>, R: Wait>(
-    rt: &R,
-    shared: &E,
-    own: &mut O,
-    table: &Mutex<ManuallyDrop<Table<M, T>>>,
-    changes: &EventCount,
-)
-    requires { (first : O) × O.comes shared.now first own.old }
-    ensures { (first : O) → O.comes shared.now first own.old → O.comes shared.now first own.new }
-{
-    let mut status = Status::Ready;
-    for _ in rt.forever() {
-        let seen = changes.read();
-        if status.can_go(seen) {
-            status = go_on(rt, shared, changes, own);
-            tell(rt, table, changes, status);
-        } else if is_over(rt, table) {
-            return;
-        } else {
-            changes.wait(rt, seen);
         }
     }
 }
@@ -135,28 +69,9 @@ pub fn is_over<M, T: Playing<M>, R: Wait>(
     table.lock(rt).is_over()
 }
 
-// Tells the other workers where a machine that is not in the table has come to its end.
-fn tell<M, T: Playing<M>, R: Wait>(
-    rt: &R,
-    table: &Mutex<ManuallyDrop<Table<M, T>>>,
-    changes: &EventCount,
-    status: Status,
-) {
-    match status {
-        Status::Ready => thread::yield_now(),
-        Status::Since(_) => {}
-        Status::Finished => {
-            changes.advance();
-        }
-        Status::Failed => {
-            table.lock(rt).fail();
-            changes.advance();
-        }
-    }
-}
-
-// A worker that found nothing to do, so often before this, when so many changes had been counted.
-fn rest<R: Wait>(rt: &R, changes: &EventCount, idle: u32, seen: u64) -> u32 {
+/// A worker that found nothing to do, so often before this, when so many changes had been counted.
+/// Answers how often it has then.
+pub fn rest<R: Wait>(rt: &R, changes: &EventCount, idle: u32, seen: u64) -> u32 {
     if idle < LOOKS {
         thread::yield_now();
         return idle + 1;
@@ -165,12 +80,13 @@ fn rest<R: Wait>(rt: &R, changes: &EventCount, idle: u32, seen: u64) -> u32 {
     idle
 }
 
-// Takes a machine out, steps it and brings it back.
-fn take_turn<E, M: Machine<E>, T: Playing<M>, R: Wait>(
+/// Takes a machine out, steps it and brings it back. The places are tried from `from` on.
+pub fn take_turn<E, M: Machine<E>, T: Playing<M>, R: Wait>(
     rt: &R,
     shared: &E,
     table: &Mutex<ManuallyDrop<Table<M, T>>>,
     changes: &EventCount,
+    pace: Pace,
     from: usize,
     share: &mut Share<T>,
 ) -> Turn
@@ -188,7 +104,7 @@ fn take_turn<E, M: Machine<E>, T: Playing<M>, R: Wait>(
         return Turn::Idle(seen);
     };
     drop(guard);
-    let status = go_on(rt, shared, changes, &mut machine);
+    let status = go_on(rt, shared, changes, pace, &mut machine);
     bring_back(rt, table, at, machine, status, share);
     match status {
         Status::Finished | Status::Failed => {
@@ -201,11 +117,12 @@ fn take_turn<E, M: Machine<E>, T: Playing<M>, R: Wait>(
     Turn::Stepped(at + 1)
 }
 
-// Steps a machine until it cannot go on, and looks so often whether it can again.
-fn go_on<E, M: Machine<E>, R: Wait>(
+/// Steps a machine until it cannot go on, and looks so often whether it can again.
+pub fn go_on<E, M: Machine<E>, R: Wait>(
     rt: &R,
     shared: &E,
     changes: &EventCount,
+    pace: Pace,
     machine: &mut M,
 ) -> Status
     requires { (first : M) × M.comes shared.now first machine.old }
@@ -213,13 +130,13 @@ fn go_on<E, M: Machine<E>, R: Wait>(
         M.comes shared.now first machine.old → M.comes shared.now first machine.new }
 {
     let mut moves = 0;
-    let mut looks = changes.looks();
+    let mut looks = pace.looks;
     for _ in rt.forever() {
         let seen = changes.read();
         let status = match machine.step(rt, shared) {
             Ok(Stepped::Went) => {
-                moves = one_more(changes, moves);
-                looks = changes.looks();
+                moves = one_more(changes, pace, moves);
+                looks = pace.looks;
                 continue;
             }
             Ok(Stepped::Pending) => {
@@ -242,9 +159,9 @@ fn go_on<E, M: Machine<E>, R: Wait>(
 
 // Counts one move more of a machine, and so many together as a change, for the machines that wait for
 // it. Answers how many of them are not counted as one.
-fn one_more(changes: &EventCount, moves: u32) -> u32 {
+fn one_more(changes: &EventCount, pace: Pace, moves: u32) -> u32 {
     let moves = moves.saturating_add(1);
-    if moves < changes.moves() {
+    if moves < pace.moves {
         return moves;
     }
     changes.advance();

@@ -1,30 +1,23 @@
 //! How workers step machines together.
-ghost use Rattle.std.specs.Prelude.{◌≡◌, ℕ, ◌+◌, ◌<◌, ◌≤◌, [], All, List, Option, Some, length, vec_len, vec_capacity, OnOk};
+ghost use Rattle.std.specs.Prelude.{◌≡◌, ◌+◌, ◌<◌, All, length, vec_len, OnOk};
 ghost use Rattle.work_table.specs.Places.{EachCame, IsSameRelation};
 
 use crate::event_count::EventCount;
 use crate::idler::Idler;
 use crate::machine::Machine;
+use crate::own::{Duty, step_own};
+use crate::pace::Pace;
+use crate::shares::{gathered, hired};
 use crate::steps::step_all;
 use crate::table::{Playing, Status, Table};
-use crate::worker::{Worker, is_over, work, work_alone, work_beside};
+use crate::worker::{Worker, work};
 use std::alloc::{AllocError, Global};
 use std::marker::Brand;
 use std::mem::ManuallyDrop;
-use std::sync::ledger::{Blank, Ledger, Share};
+use std::sync::ledger::{Blank, Share};
 use std::sync::{Mutex, Wait};
 use std::thread;
 use std::thread::Threads;
-
-/// Where each machine has a worker, that one looks so often again before it brings it back.
-const LOOKS_AGAIN: u32 = 256;
-
-/// A machine that goes on for long counts a change after so many steps, for the machines that wait
-/// for it.
-const MOVES: u32 = 64;
-
-/// The same where one thread has a machine of its own: each change may wake that thread.
-const MOVES_BESIDE: u32 = 96;
 
 /// Steps the machines on so many threads, or as many as there are machines, until all have finished
 /// or one finds no memory. All machines come back, each at its place.
@@ -42,9 +35,9 @@ pub fn step_together<R: Threads + Wait + Sync, E: Sync, M: Machine<E> + Send>(
 {
     let count = machines.len().min(threads as usize).max(1);
     let blank = Blank::new(count as u64);
-    let changes = EventCount::new(looks_for(count, machines.len()), MOVES);
+    let pace = Pace::together(count, machines.len());
     step_as::<Brand, R, E, Idler, M>(
-        rt, alloc, shared, &mut Idler, machines, blank, count, changes,
+        rt, alloc, shared, &mut Idler, machines, blank, count, pace,
     )
 }
 
@@ -71,8 +64,8 @@ pub fn step_beside<R: Threads + Wait + Sync, E: Sync, O: Machine<E>, M: Machine<
         .min(threads as usize)
         .max(1);
     let blank = Blank::new(count as u64);
-    let changes = EventCount::new(0, MOVES_BESIDE);
-    step_as::<Brand, R, E, O, M>(rt, alloc, shared, own, machines, blank, count, changes)
+    let pace = Pace::beside();
+    step_as::<Brand, R, E, O, M>(rt, alloc, shared, own, machines, blank, count, pace)
 }
 
 // Steps the machines of this play on workers, and then by itself each that has not finished.
@@ -90,7 +83,7 @@ fn step_as<
     machines: Vec<M>,
     blank: Blank,
     worker_count: usize,
-    changes: EventCount,
+    pace: Pace,
 ) -> (Vec<M>, Result<(), AllocError>)
     requires name { blank.name ≡ T.name }
     requires parts { (blank.parts ≡ T.parts) × (T.parts ≡ worker_count) }
@@ -116,9 +109,11 @@ fn step_as<
         return (machines, Err(AllocError));
     };
     let (book, all) = blank.open::<T>();
-    let (others, share) = hired(workers, all, worker_count - 1);
+    let (others, share) = hired(workers, all, worker_count - 1, pace);
     let (table, machines) = Table::<M, T>::of(machines, places, statuses, book);
-    let (table, all) = at_work(rt, shared, own, table, &changes, others, Worker { share });
+    let mine = Worker { share, pace };
+    let changes = EventCount::new();
+    let (table, all) = at_work(rt, shared, own, table, &changes, others, mine);
     let failed = table.has_failed();
     let mut machines = table.into_machines(machines, all);
     if failed {
@@ -126,30 +121,6 @@ fn step_as<
     }
     let ended = step_all(rt, shared, own, &mut machines);
     (machines, ended)
-}
-
-// How often a worker looks again whether its machine can go on, before it brings it back. Where there
-// are more machines than workers it doesn't look again, since another machine may go on.
-fn looks_for(workers: usize, machines: usize) -> u32 {
-    if workers < machines { 0 } else { LOOKS_AGAIN }
-}
-
-// So many workers, each with one part of the ledger, of which one part is left.
-fn hired<T: Ledger>(
-    mut workers: Vec<Worker<T>>,
-    mut all: Share<T>,
-    count: usize,
-) -> (Vec<Worker<T>>, Share<T>)
-    requires workers { (workers.items ≡ []) × (count ≤ vec_capacity workers) }
-    requires all { (all.parts ≡ count + 1) × (all.amount ≡ 0) }
-    ensures count { vec_len result.0 ≡ count }
-    ensures left { (result.1.parts ≡ 1) × (result.1.amount ≡ 0) }
-{
-    for _i in 0..count {
-        let share = all.split_off(1, 0);
-        workers.push_reserved(Worker { share });
-    }
-    (workers, all)
 }
 
 // All workers at work, until each has ended: this thread is one of them, and steps `own` too. Their
@@ -175,10 +146,14 @@ fn at_work<
         O.comes shared.now first own.old → O.comes shared.now first own.new }
     ensures share { (result.1.parts ≡ vec_len others + 1) × (result.1.amount ≡ 0) }
 {
-    let alone = table.count() <= others.len();
+    let duty = if table.count() <= others.len() {
+        Duty::Alone
+    } else {
+        Duty::Table
+    };
     let lock = lock_of(table);
     if others.is_empty() {
-        work_beside(rt, shared, own, &lock, changes, &mut mine, false);
+        step_own(rt, shared, own, &lock, changes, &mut mine, Duty::Table);
     } else {
         work_with(
             rt,
@@ -188,10 +163,10 @@ fn at_work<
             changes,
             &mut mine,
             others.as_mut_slice(),
-            alone,
+            duty,
         );
     }
-    let Worker { share } = mine;
+    let Worker { share, pace: _ } = mine;
     let all = gathered(others, share);
     (ManuallyDrop::into_inner(lock.into_inner()), all)
 }
@@ -213,7 +188,7 @@ fn work_with<
     changes: &'a EventCount,
     mine: &'a mut Worker<T>,
     others: &'a mut [Worker<T>],
-    alone: bool,
+    duty: Duty,
 )
     requires relation { IsSameRelation T.comes (M.comes shared.now) }
     requires own { (first : O) × O.comes shared.now first own.old }
@@ -229,30 +204,8 @@ fn work_with<
         ensures { (first : O) →
             O.comes shared.entry.now first own.entry.now →
             O.comes shared.entry.now first own.exit.now }
-    { step_own(rt, shared, own, lock, changes, mine, alone) };
+    { step_own(rt, shared, own, lock, changes, mine, duty) };
     thread::join_mut(rt, &mut helping, &mut working);
-}
-
-// This worker at work, beside its own machine or at that alone: then it waits for help at the table,
-// since there is none where no thread can be made.
-fn step_own<E, O: Machine<E>, M: Machine<E>, T: Playing<M>, R: Wait>(
-    rt: &R,
-    shared: &E,
-    own: &mut O,
-    lock: &Mutex<ManuallyDrop<Table<M, T>>>,
-    changes: &EventCount,
-    mine: &mut Worker<T>,
-    alone: bool,
-)
-    requires relation { IsSameRelation T.comes (M.comes shared.now) }
-    requires own { (first : O) × O.comes shared.now first own.old }
-    ensures { (first : O) →
-        O.comes shared.now first own.old → O.comes shared.now first own.new }
-{
-    work_beside(rt, shared, own, lock, changes, mine, alone);
-    if alone && !is_over(rt, lock) {
-        work_alone(rt, shared, own, lock, changes);
-    }
 }
 
 // These workers at work, each on a thread.
@@ -280,16 +233,4 @@ fn help<T: Playing<M> + Send + Sync, R: Threads + Wait + Sync, E: Sync, M: Machi
 // A lock round a table, which comes out of it again.
 fn lock_of<M, T: Playing<M>>(table: Table<M, T>) -> Mutex<ManuallyDrop<Table<M, T>>> {
     Mutex::new(unsafe { ManuallyDrop::new_unchecked(table) })
-}
-
-// The shares of all workers with this one.
-fn gathered<T: Ledger>(mut workers: Vec<Worker<T>>, mut all: Share<T>) -> Share<T>
-    requires { (all.parts ≡ 1) × (all.amount ≡ 0) }
-    ensures { (result.parts ≡ vec_len workers + 1) × (result.amount ≡ 0) }
-{
-    while let Some(worker) = workers.pop() {
-        let Worker { share } = worker;
-        all.merge(share);
-    }
-    all
 }

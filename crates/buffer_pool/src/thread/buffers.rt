@@ -78,7 +78,7 @@ impl<B: PoolName> PoolThread<B> {
         }
         match allocate(rt, &pool.shared, &mut self.member, size, class) {
             Ok(root) => {
-                // By its parts, so that it stays in registers.
+                // LLVM keeps a root in registers only where it is made anew here.
                 let RootId {
                     place,
                     generation,

@@ -9,7 +9,7 @@ ghost use Rattle.arena_laws.specs.Orderly.{IsOrderly};
 ghost use Rattle.pool_arena.specs.Closing.{IsResting, HasNoFront};
 
 use super::{ChunkStock, settle};
-use crate::front::SubpageAt;
+use crate::subpage_list::SubpageAt;
 use ground::Piece;
 
 impl ChunkStock {

@@ -26,11 +26,12 @@ returns-in-Did-default-Some c = λ sampler size.
     let holds = subst (λ (x : Option Region). IfSome x
     (λ r. HoldsRegion pool new r × (r.id.owner ≡ lane_of old) × (r.id.class ≡ class) × (r.id.uses ≡ 0)))
     did.field-1-is did.ensures.region in
-    let it : c.at.result ≡ Note.At o did.number (Did.Take class did.region.id) = c.at.ensures
+    let it : c.note_at.result ≡ Note.At o did.number (Did.Take class did.region.id) = c.note_at.ensures
     ∙ (λ i. Note.At (Arena (c.lane_of.ensures.lane i % (c.requires.shape i).arenas)) did.number
     (Did.Take class did.region.id)) in
-    arena_gave pool old new class did.ensures.seat did.ensures.same did.number c.at.result c.args.log.now
-    c.write.new.log c.write.ensures sampler size c.args.handle did.region c.requires.may noted holds.0 holds.2 it
+    arena_gave pool old new class did.ensures.seat did.ensures.same did.number c.note_at.result c.args.log.now
+    c.write_note.new.log c.write_note.ensures sampler size c.args.handle did.region c.requires.may noted holds.0
+      holds.2 it
 
 pub returns-in-Did-default-None : goal.returns-in-Did-default-None
 returns-in-Did-default-None c = λ sampler size.
@@ -39,7 +40,7 @@ returns-in-Did-default-None c = λ sampler size.
     let o : Object = Arena (lane_of old % pool.table.layout.shape.arenas) in
     let noted = subst (λ (x : Option Region). IsNoted pool old new o did.number (plain (taken_or_full class x)))
     did.field-1-is did.ensures.did in
-    let at = c.at-in-Did-default-None in let wrote = c.write-in-Did-default-None in
+    let at = c.note_at-in-Did-default-None in let wrote = c.write_note-in-Did-default-None in
     let it : at.result ≡ Note.At o did.number (Did.Full class) = at.ensures
     ∙ (λ i. Note.At (Arena (c.lane_of.ensures.lane i % (c.requires.shape i).arenas)) did.number (Did.Full class)) in
     arena_was_full pool old new class did.ensures.seat did.ensures.same did.number at.result c.args.log.now

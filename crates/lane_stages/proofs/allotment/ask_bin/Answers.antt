@@ -17,16 +17,16 @@ pub returns-in-Did-default-None : goal.returns-in-Did-default-None
 returns-in-Did-default-None c = λ sampler size class_is.
     let pool = c.args.pool.now in let old = c.args.seat.now in let new = c.pop_handle.new.seat in let did =
     c.in-Did-default-None in
-    asked_none pool old new c.args.class did.ensures.seat did.ensures.same did.number c.at.result c.args.log.now
-    c.write.new.log c.write.ensures sampler size c.requires.may
+    asked_none pool old new c.args.class did.ensures.seat did.ensures.same did.number c.note_at.result c.args.log.now
+    c.write_note.new.log c.write_note.ensures sampler size c.requires.may
     (subst (λ (x : Option HandleValue). IsNoted pool old new (Bin (lane_of old)) did.number (plain (popped x)))
     did.field-1-is did.ensures.did)
-    (c.at.ensures ∙ ap (λ (x : ℕ). Note.At (Bin x) did.number Did.NoHandle) c.lane_of.ensures.lane)
+    (c.note_at.ensures ∙ ap (λ (x : ℕ). Note.At (Bin x) did.number Did.NoHandle) c.lane_of.ensures.lane)
 
 pub returns-then-class-lt-CACHED_CLASSES : goal.returns-then-class-lt-CACHED_CLASSES
 returns-then-class-lt-CACHED_CLASSES c = λ sampler size class_is.
     let pool = c.args.pool.now in let old = c.args.seat.now in let new = c.pop_handle.new.seat in let did =
-    c.in-Did-default-Some in let at = c.at-in-Did-default-Some in let wrote = c.write-in-Did-default-Some in
+    c.in-Did-default-Some in let at = c.note_at-in-Did-default-Some in let wrote = c.write_note-in-Did-default-Some in
     let noted = subst (λ (x : Option HandleValue). IsNoted pool old new (Bin (lane_of old)) did.number
     (plain (popped x))) did.field-1-is did.ensures.did in
     let holds = subst (λ (x : Option HandleValue). IfSome x (λ h. HoldsHandle pool new h × (h.lane ≡ lane_of old)))
@@ -40,7 +40,7 @@ returns-then-class-lt-CACHED_CLASSES c = λ sampler size class_is.
 pub returns-else-class-lt-CACHED_CLASSES : goal.returns-else-class-lt-CACHED_CLASSES
 returns-else-class-lt-CACHED_CLASSES c = λ sampler size class_is.
     let pool = c.args.pool.now in let old = c.args.seat.now in let new = c.pop_handle.new.seat in let did =
-    c.in-Did-default-Some in let at = c.at-in-Did-default-Some in let wrote = c.write-in-Did-default-Some in
+    c.in-Did-default-Some in let at = c.note_at-in-Did-default-Some in let wrote = c.write_note-in-Did-default-Some in
     let noted = subst (λ (x : Option HandleValue). IsNoted pool old new (Bin (lane_of old)) did.number
     (plain (popped x))) did.field-1-is did.ensures.did in
     let holds = subst (λ (x : Option HandleValue). IfSome x (λ h. HoldsHandle pool new h × (h.lane ≡ lane_of old)))

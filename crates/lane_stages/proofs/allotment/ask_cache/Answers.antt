@@ -20,16 +20,18 @@ returns-in-Did-default-Some c = λ sampler size.
     let holds = subst (λ (x : Option Region). IfSome x
     (λ r. HoldsRegion pool new r × (r.id.owner ≡ lane_of old) × (r.id.class ≡ class))) did.field-1-is
     did.ensures.region in
-    let it : c.at.result ≡ Note.At (Cache (lane_of old) class) did.number (Did.Hit did.region.id) = c.at.ensures
+    let it : c.note_at.result ≡ Note.At (Cache (lane_of old) class) did.number (Did.Hit did.region.id) =
+      c.note_at.ensures
     ∙ (λ i. Note.At (Cache (c.lane_of.ensures.lane i) class) did.number (Did.Hit did.region.id)) in
-    cache_hit pool old new class did.ensures.seat did.ensures.same did.number c.at.result c.args.log.now c.write.new.log
-    c.write.ensures sampler size c.args.handle did.region c.requires.may noted holds.0 holds.2 it
+    cache_hit pool old new class did.ensures.seat did.ensures.same did.number c.note_at.result c.args.log.now
+      c.write_note.new.log
+    c.write_note.ensures sampler size c.args.handle did.region c.requires.may noted holds.0 holds.2 it
 
 pub returns-in-Did-default-None : goal.returns-in-Did-default-None
 returns-in-Did-default-None c = λ sampler size.
     let pool = c.args.pool.now in let old = c.args.seat.now in let new = c.pop_cached.new.seat in let did =
     c.in-Did-default-None in let class =
-    c.args.class in let call = c.at-in-Did-default-None in let wrote = c.write-in-Did-default-None in
+    c.args.class in let call = c.note_at-in-Did-default-None in let wrote = c.write_note-in-Did-default-None in
     let noted = subst (λ (x : Option Region). IsNoted pool old new (Cache (lane_of old) class) did.number
     (plain (hit x))) did.field-1-is did.ensures.did in
     let it : call.result ≡ Note.At (Cache (lane_of old) class) did.number Did.Miss = call.ensures
@@ -39,7 +41,7 @@ returns-in-Did-default-None c = λ sampler size.
 
 pub returns-in-Held : goal.returns-in-Held
 returns-in-Held c = λ sampler size.
-    let wrote = c.write-in-Held in
+    let wrote = c.write_note-in-Held in
     cache_busy c.args.pool.now c.args.seat.now c.pop_cached.new.seat c.args.class c.in-Held.ensures.seat
     c.in-Held.ensures.same c.args.handle c.in-Held.held c.args.log.now wrote.new.log wrote.ensures sampler size
     c.requires.may c.in-Held.ensures.held

@@ -29,10 +29,10 @@ put_handle-requires-clause-handle c =
 pub returns-in-Did : goal.returns-in-Did
 returns-in-Did c = λ sampler size class.
     let handle = c.args.handle in let did = c.in-Did in
-    let it : c.at.result ≡ Note.At (Bin handle.lane) did.number (Did.Home handle.place) = c.at.ensures
+    let it : c.note_at.result ≡ Note.At (Bin handle.lane) did.number (Did.Home handle.place) = c.note_at.ensures
     ∙ (λ i. Note.At (Bin (c.lane.ensures i)) did.number (Did.Home (c.place-place.ensures i))) in
     went_home c.args.pool.now c.args.seat.now c.put_handle.new.seat class did.ensures.seat did.ensures.same did.number
-    c.at.result c.args.log.now c.write.new.log c.write.ensures sampler size handle (c.requires.may class)
+    c.note_at.result c.args.log.now c.write_note.new.log c.write_note.ensures sampler size handle (c.requires.may class)
     did.ensures.did it
 
 pub returns-in-Held : goal.returns-in-Held

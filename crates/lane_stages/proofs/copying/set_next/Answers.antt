@@ -27,10 +27,10 @@ returns-then-is_empty c =
     let root = c.args.goal.0 in let at = c.args.goal.1 in
     let noted = subst (λ (bytes : List ℕ). IsNoted pool old new (Root root.place) did.number
     (access root (Did.Set at bytes))) c.deref.ensures.value did.ensures.did in
-    let it = c.at.ensures
+    let it = c.note_at.ensures
     ∙ ap (λ (bytes : List ℕ). Note.At (Root root.place) did.number (Did.Set at bytes)) c.of-bytes.ensures in
     copy_done pool old new did.ensures.seat did.ensures.same root at c.args.bytes c.args.later c.requires.may did.number
-    noted c.at.result it c.args.log.now c.write-in-Did.new.log c.write-in-Did.ensures
+    noted c.note_at.result it c.args.log.now c.write_note.new.log c.write_note.ensures
     (none-in c.args.later (sym c.is_empty.ensures ∙ c.if-is_empty.true))
 
 pub returns-else-is_empty : goal.returns-else-is_empty
@@ -39,11 +39,11 @@ returns-else-is_empty c =
     let root = c.args.goal.0 in let at = c.args.goal.1 in let later = c.args.later in let call = c.remove-first in
     let noted = subst (λ (bytes : List ℕ). IsNoted pool old new (Root root.place) did.number
     (access root (Did.Set at bytes))) c.deref.ensures.value did.ensures.did in
-    let it = c.at.ensures
+    let it = c.note_at.ensures
     ∙ ap (λ (bytes : List ℕ). Note.At (Root root.place) did.number (Did.Set at bytes)) c.of-bytes.ensures in
     let some = some-in later (sym c.is_empty.ensures ∙ c.if-is_empty.false) in
     copy_more pool old new did.ensures.seat did.ensures.same root at c.args.bytes later c.requires.may did.number noted
-    c.at.result it c.args.log.now c.write-in-Did.new.log c.write-in-Did.ensures (at + c.len.result)
+    c.note_at.result it c.args.log.now c.write_note.new.log c.write_note.ensures (at + c.len.result)
     (omega (arith, c.len.ensures, c.args.bytes.ok.0)) call.result call.new.self
     (first-is later.items call.result call.new.self.items some call.ensures.value call.ensures.items)
 

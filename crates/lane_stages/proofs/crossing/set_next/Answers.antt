@@ -26,10 +26,10 @@ returns-in-Some c =
     let first = c.args.first in let root = first.part.root in
     let noted = subst (λ (bytes : List ℕ). IsNoted pool old new (Root root.place) did.number
     (access root (Did.Set first.part.offset bytes))) c.deref.ensures.value did.ensures.did in
-    let it = c.at.ensures ∙ ap (λ (bytes : List ℕ). Note.At (Root root.place) did.number
+    let it = c.note_at.ensures ∙ ap (λ (bytes : List ℕ). Note.At (Root root.place) did.number
     (Did.Set first.part.offset bytes)) c.of-bytes.ensures in
     set_more pool old new did.ensures.seat did.ensures.same first c.args.later c.requires.may did.number noted
-    c.at.result it c.args.log.now c.write-in-Did.new.log c.write-in-Did.ensures c.in-Some.first c.in-Some.later
+    c.note_at.result it c.args.log.now c.write_note.new.log c.write_note.ensures c.in-Some.first c.in-Some.later
     c.in-Some.ensures
 
 pub returns-in-None : goal.returns-in-None
@@ -38,10 +38,10 @@ returns-in-None c =
     let first = c.args.first in let root = first.part.root in
     let noted = subst (λ (bytes : List ℕ). IsNoted pool old new (Root root.place) did.number
     (access root (Did.Set first.part.offset bytes))) c.deref.ensures.value did.ensures.did in
-    let it = c.at.ensures ∙ ap (λ (bytes : List ℕ). Note.At (Root root.place) did.number
+    let it = c.note_at.ensures ∙ ap (λ (bytes : List ℕ). Note.At (Root root.place) did.number
     (Did.Set first.part.offset bytes)) c.of-bytes.ensures in
     set_last pool old new did.ensures.seat did.ensures.same first c.args.later c.requires.may did.number noted
-    c.at.result it c.args.log.now c.write-in-Did.new.log c.write-in-Did.ensures c.in-None.ensures
+    c.note_at.result it c.args.log.now c.write_note.new.log c.write_note.ensures c.in-None.ensures
 
 pub returns-in-Held : goal.returns-in-Held
 returns-in-Held c =

@@ -27,10 +27,10 @@ quota-requires-clause-not_closed c = λ closes.
 pub returns-in-Did : goal.returns-in-Did
 returns-in-Did c =
     let old = c.args.seat.now in let did = c.in-Did in let class = c.args.class in
-    let it : c.at.result ≡ Note.At (Cache (lane_of old) class) did.number (quota_note c.args.kind did.quota) =
-    c.at.ensures ∙ (λ i. Note.At (Cache (c.lane_of.ensures.lane i) class) did.number (c.noted.ensures i)) in
+    let it : c.note_at.result ≡ Note.At (Cache (lane_of old) class) did.number (quota_note c.args.kind did.quota) =
+    c.note_at.ensures ∙ (λ i. Note.At (Cache (c.lane_of.ensures.lane i) class) did.number (c.noted.ensures i)) in
     gave_quota c.args.pool.now old c.quota.new.seat did.ensures.seat did.ensures.same c.args.kind class did.number
-    c.at.result c.args.log.now c.write.new.log c.write.ensures did.quota c.after.result c.requires.may
+    c.note_at.result c.args.log.now c.write_note.new.log c.write_note.ensures did.quota c.after.result c.requires.may
     did.ensures.did did.ensures.bound c.after.ensures.next c.after.ensures.hand c.after.ensures.read it
 
 pub returns-in-Held : goal.returns-in-Held

@@ -20,16 +20,17 @@ returns-in-Did-default-Some c =
     let holds = subst (λ (x : Option Region). IfSome x
     (λ r. HoldsRegion pool new r × (r.id.owner ≡ lane_of old) × (r.id.class ≡ class))) did.field-1-is
     did.ensures.region in
-    let it : c.at.result ≡ Note.At (Cache (lane_of old) class) did.number (Did.Hit did.region.id) = c.at.ensures
+    let it : c.note_at.result ≡ Note.At (Cache (lane_of old) class) did.number (Did.Hit did.region.id) =
+      c.note_at.ensures
     ∙ (λ i. Note.At (Cache (c.lane_of.ensures.lane i) class) did.number (Did.Hit did.region.id)) in
     cache_hit pool old new want.root want.size class did.ensures.seat did.ensures.same c.requires.may did.number
-    c.at.result c.args.log.now c.write.new.log c.write.ensures did.region noted holds.0 holds.2 it
+    c.note_at.result c.args.log.now c.write_note.new.log c.write_note.ensures did.region noted holds.0 holds.2 it
 
 pub returns-in-Did-default-None : goal.returns-in-Did-default-None
 returns-in-Did-default-None c =
     let pool = c.args.pool.now in let old = c.args.seat.now in let new = c.pop_cached.new.seat in let did =
     c.in-Did-default-None in let want = c.args.want in let class = want.class in
-    let call = c.at-in-Did-default-None in let wrote = c.write-in-Did-default-None in
+    let call = c.note_at-in-Did-default-None in let wrote = c.write_note-in-Did-default-None in
     let noted = subst (λ (x : Option Region). IsNoted pool old new (Cache (lane_of old) class) did.number
     (plain (hit x))) did.field-1-is did.ensures.did in
     let it : call.result ≡ Note.At (Cache (lane_of old) class) did.number Did.Miss = call.ensures
@@ -39,7 +40,7 @@ returns-in-Did-default-None c =
 
 pub returns-in-Held : goal.returns-in-Held
 returns-in-Held c =
-    let want = c.args.want in let wrote = c.write-in-Held in
+    let want = c.args.want in let wrote = c.write_note-in-Held in
     cache_busy c.args.pool.now c.args.seat.now c.pop_cached.new.seat want.root want.size want.class
     c.in-Held.ensures.seat c.in-Held.ensures.same c.requires.may c.in-Held.held c.args.log.now wrote.new.log
     wrote.ensures c.in-Held.ensures.held

@@ -24,13 +24,14 @@ returns-in-Did-default-Enough c =
     let knows = subst (λ (x : Room). KnowsOf pool new root (room_capacity want.size x)) did.field-1-is
     did.ensures.knows in
     room_enough pool old new root want.size want.class did.ensures.seat did.ensures.same c.requires.may c.requires.class
-    did.number c.at.result log c.write.new.log c.write.ensures did.capacity (noted, c.at.ensures) le knows
+    did.number c.note_at.result log c.write_note.new.log c.write_note.ensures did.capacity (noted, c.note_at.ensures)
+      le knows
 
 pub returns-in-Did-default-Extended : goal.returns-in-Did-default-Extended
 returns-in-Did-default-Extended c =
     let pool = c.args.pool.now in let old = c.args.seat.now in let new = c.room.new.seat in let want = c.args.want in
     let did = c.in-Did-default-Extended in let root = want.root in let log = c.args.log.now in
-    let at = c.at-in-Did-default-Extended in let wrote = c.write-in-Did-default-Extended in
+    let at = c.note_at-in-Did-default-Extended in let wrote = c.write_note-in-Did-default-Extended in
     let noted = subst (λ (x : Room). IsNoted pool old new (Root root.place) did.number
     (access root (room_did want.size x))) did.field-1-is did.ensures.did in
     let knows = subst (λ (x : Room). KnowsOf pool new root (room_capacity want.size x)) did.field-1-is
@@ -42,7 +43,7 @@ pub returns-in-Did-default-Short : goal.returns-in-Did-default-Short
 returns-in-Did-default-Short c =
     let pool = c.args.pool.now in let old = c.args.seat.now in let new = c.room.new.seat in let want = c.args.want in
     let did = c.in-Did-default-Short in let root = want.root in let log = c.args.log.now in
-    let at = c.at-in-Did-default-Short in let wrote = c.write-in-Did-default-Short in
+    let at = c.note_at-in-Did-default-Short in let wrote = c.write_note-in-Did-default-Short in
     let noted = subst (λ (x : Room). IsNoted pool old new (Root root.place) did.number
     (access root (room_did want.size x))) did.field-1-is did.ensures.did in
     let lt = subst (λ (x : Room). IsRoomFor want.size x) did.field-1-is did.ensures.answer in

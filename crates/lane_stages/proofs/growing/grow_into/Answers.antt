@@ -32,7 +32,7 @@ pub returns-in-Did-default-Enough : goal.returns-in-Did-default-Enough
 returns-in-Did-default-Enough c =
     let pool = c.args.pool.now in let old = c.args.seat.now in let new = c.grow.new.seat in let want = c.args.want in
     let did = c.in-Did-default-Enough in let root = want.root in let log = c.args.log.now in let region =
-    c.args.region in let at = c.at in let wrote = c.write in let size = want.size in
+    c.args.region in let at = c.note_at in let wrote = c.write_note in let size = want.size in
     let noted = subst (λ (x : Grown). IsNoted pool old new (Root root.place) did.number
     (grown_note root size region.id x)) did.field-1-is did.ensures.did in
     let answer = subst (λ (x : Grown). IsGrownFor size region x) did.field-1-is did.ensures.answer in
@@ -48,7 +48,7 @@ pub returns-in-Did-default-Extended : goal.returns-in-Did-default-Extended
 returns-in-Did-default-Extended c =
     let pool = c.args.pool.now in let old = c.args.seat.now in let new = c.grow.new.seat in let want = c.args.want in
     let did = c.in-Did-default-Extended in let root = want.root in let log = c.args.log.now in let region =
-    c.args.region in let at = c.at-in-Did-default-Extended in let wrote = c.write-in-Did-default-Extended in
+    c.args.region in let at = c.note_at-in-Did-default-Extended in let wrote = c.write_note-in-Did-default-Extended in
     let size = want.size in
     let noted = subst (λ (x : Grown). IsNoted pool old new (Root root.place) did.number
     (grown_note root size region.id x)) did.field-1-is did.ensures.did in
@@ -65,7 +65,7 @@ pub returns-in-Did-default-Replaced : goal.returns-in-Did-default-Replaced
 returns-in-Did-default-Replaced c =
     let pool = c.args.pool.now in let old = c.args.seat.now in let new = c.grow.new.seat in let want = c.args.want in
     let did = c.in-Did-default-Replaced in let root = want.root in let log = c.args.log.now in let region =
-    c.args.region in let at = c.at-in-Did-default-Replaced in let wrote = c.write-in-Did-default-Replaced in
+    c.args.region in let at = c.note_at-in-Did-default-Replaced in let wrote = c.write_note-in-Did-default-Replaced in
     let size = want.size in
     let noted = subst (λ (x : Grown). IsNoted pool old new (Root root.place) did.number
     (grown_note root size region.id x)) did.field-1-is did.ensures.did in

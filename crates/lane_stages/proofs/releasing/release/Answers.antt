@@ -35,14 +35,14 @@ release-release-requires-clause-counts c =
 pub take-requires : goal.take-requires
 take-requires c = c.in-Some-next_counted.ensures.5
 
-pub write-requires : goal.write-requires
-write-requires c =
+pub write_note-requires : goal.write_note-requires
+write_note-requires c =
     let room = c.requires.room in let some = counted_left c.args.counts.now c.args.stage.left
     c.next_counted.new.left c.in-Some-next_counted.root c.in-Some-next_counted.ensures in
     omega (arith, room, some)
 
-pub write-requires-in-Ended : goal.write-requires-in-Ended
-write-requires-in-Ended c =
+pub write_note-requires-in-Ended : goal.write_note-requires-in-Ended
+write_note-requires-in-Ended c =
     let room = c.requires.room in let some = counted_left c.args.counts.now c.args.stage.left
     c.next_counted.new.left c.in-Some-next_counted.root c.in-Some-next_counted.ensures in
     omega (arith, room, some)
@@ -82,10 +82,10 @@ returns-in-Kept c =
     let pool = c.args.pool.now in let old = c.args.seat.now in let call = c.release-release in
     let new = call.new.seat in let cs = c.args.counts.now in let ds = c.take.new.self in
     let left = c.args.stage.left in let after = c.next_counted.new.left in let root = c.in-Some-next_counted.root in
-    let log = c.args.log.now in let later = c.write.new.log in
+    let log = c.args.log.now in let later = c.write_note.new.log in
     let may = subst (λ (e : Option Ending). MayRelease pool old cs (stage_of e left)) c.in_default.is c.requires.may in
     let did = subst (λ (r : Release). IsReleasedAs r root old new) c.in-Kept.is call.ensures.did in
-    let adds = subst (λ (n : Note). HasWritten log later (n ∷ [])) c.to.ensures c.write.ensures in
+    let adds = subst (λ (n : Note). HasWritten log later (n ∷ [])) c.note_to.ensures c.write_note.ensures in
     subst (λ (p : Option Ending × Releasing). HasReleased pool old new cs ds log later (stage_of p.0 left) (More p.1))
     (λ i. (sym c.in_default.is i, sym c.ended_with-in-Kept.ensures i))
     (part_kept pool old new cs ds left after root may c.in-Some-next_counted.ensures c.take.ensures.counts
@@ -97,10 +97,11 @@ returns-in-Ended c =
     let pool = c.args.pool.now in let old = c.args.seat.now in let call = c.release-release in
     let new = call.new.seat in let cs = c.args.counts.now in let ds = c.take.new.self in
     let left = c.args.stage.left in let after = c.next_counted.new.left in let root = c.in-Some-next_counted.root in
-    let log = c.args.log.now in let later = c.write-in-Ended.new.log in let token = c.in-Ended.token in
+    let log = c.args.log.now in let later = c.write_note-in-Ended.new.log in let token = c.in-Ended.token in
     let may = subst (λ (e : Option Ending). MayRelease pool old cs (stage_of e left)) c.in_default.is c.requires.may in
     let did = subst (λ (r : Release). IsReleasedAs r root old new) c.in-Ended.is call.ensures.did in
-    let adds = subst (λ (n : Note). HasWritten log later (n ∷ [])) c.to-in-Ended.ensures c.write-in-Ended.ensures in
+    let adds = subst (λ (n : Note). HasWritten log later (n ∷ [])) c.note_to-in-Ended.ensures
+      c.write_note-in-Ended.ensures in
     subst (λ (p : Option Ending × Releasing). HasReleased pool old new cs ds log later (stage_of p.0 left) (More p.1))
     (λ i. (sym c.in_default.is i, sym c.ended_with-in-Ended.ensures i))
     (part_ended pool old new cs ds left after root may c.in-Some-next_counted.ensures c.take.ensures.counts

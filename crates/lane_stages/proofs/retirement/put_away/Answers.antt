@@ -23,14 +23,15 @@ returns-in-Did-default-Kept c =
     c.in-Did-default-Kept in let id = c.args.region.id in
     let noted = subst (λ (x : Put). IsNoted pool old new (Cache id.owner id.class) did.number (plain (was_put id x)))
     did.field-1-is did.ensures.did in
-    kept_there pool old new did.ensures.seat did.ensures.same did.number c.at.result c.args.log.now c.write.new.log
-    c.write.ensures c.args.handle c.args.region c.requires.may noted c.at.ensures
+    kept_there pool old new did.ensures.seat did.ensures.same did.number c.note_at.result c.args.log.now
+      c.write_note.new.log
+    c.write_note.ensures c.args.handle c.args.region c.requires.may noted c.note_at.ensures
 
 pub returns-in-Did-default-Back : goal.returns-in-Did-default-Back
 returns-in-Did-default-Back c =
     let pool = c.args.pool.now in let old = c.args.seat.now in let new = c.put_cached.new.seat in let did =
     c.in-Did-default-Back in let region = c.args.region in let handle = c.args.handle in
-    let note = c.at-in-Did-default-Back in let wrote = c.write-in-Did-default-Back in
+    let note = c.note_at-in-Did-default-Back in let wrote = c.write_note-in-Did-default-Back in
     let noted = subst (λ (x : Put). IsNoted pool old new (Cache region.id.owner region.id.class) did.number
     (plain (was_put region.id x))) did.field-1-is did.ensures.did in
     let back = subst (λ (x : Put). IfBack x (λ r. r ≡ region)) did.field-1-is did.ensures.back in
@@ -42,7 +43,7 @@ returns-in-Did-default-Back c =
 pub returns-in-Held : goal.returns-in-Held
 returns-in-Held c =
     let pool = c.args.pool.now in let old = c.args.seat.now in let new = c.put_cached.new.seat in let held =
-    c.in-Held in let region = c.args.region in let handle = c.args.handle in let wrote = c.write-in-Held in
+    c.in-Held in let region = c.args.region in let handle = c.args.handle in let wrote = c.write_note-in-Held in
     subst (λ (r : Region). HasEnded pool old new c.args.log.now wrote.new.log (AskCache region handle)
     (More (AskArena r handle))) (sym held.ensures.held.0)
     (away_busy pool old new held.ensures.seat held.ensures.same region handle held.held c.args.log.now wrote.new.log

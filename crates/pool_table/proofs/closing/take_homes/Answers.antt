@@ -25,8 +25,8 @@ loop-i-init g c = let s = c.args.shape.now in record {
       ≡ 0 = first_slot s in let lt' : k < n = lt in absurd (omega (arith, z, lt')));
 }
 
-pub take-spot-requires : goal.take-spot-requires
-take-spot-requires g c = let s = c.args.shape.now in let i : ℕ = c.loop-i.i in
+pub take-bare-requires : goal.take-bare-requires
+take-bare-requires g c = let s = c.args.shape.now in let i : ℕ = c.loop-i.i in
     let fs = slots_filled c.loop-i.closed.slots in
     let lt : i < objects_of s = subst (λ (n : ℕ). i < n) c.object_count-count.ensures c.loop-i-test.true in
     let near : slot_at s i < slots_of s = slots_rise s i (objects_of s) lt in
@@ -41,8 +41,8 @@ take-requires g c = let s = c.args.shape.now in let i : ℕ = c.loop-i.i in
     let lt : i < objects_of s = subst (λ (n : ℕ). i < n) c.object_count-count.ensures c.loop-i-test.true in
     let home = c.requires.there i lt in
     ap is_some
-    (some-injective c.take-spot.result (Some home.0)
-    (sym c.take-spot.ensures.value
+    (some-injective c.take-bare.result (Some home.0)
+    (sym c.take-bare.ensures.value
     ∙ (ap (λ (n : ℕ). get_elem? (slots_items c.loop-i.closed.slots) n) c.slot_index-slot.ensures
     ∙ (ap (λ l. get_elem? l (slot_at s i)) c.loop-i.invariant.same ∙ home.1))))
 
@@ -52,7 +52,7 @@ pass_empty-requires-clause-within g c = let s = c.args.shape.now in let i : ℕ 
       subst (λ (y : ℕ × ℕ). y.0 < y.1) (λ q. (sym c.slot_index-slot.ensures q, sym c.slot_index.ensures q))
           (slots_rise s i (i + 1) (omega arith)),
       subst (λ (y : ℕ × ℕ). y.0 ≤ y.1)
-          (λ q. (sym c.slot_index.ensures q, sym (c.take-spot.ensures.others.2 ∙ c.loop-i.invariant.count) q))
+          (λ q. (sym c.slot_index.ensures q, sym (c.take-bare.ensures.others.2 ∙ c.loop-i.invariant.count) q))
           (slots_rise_on s (i + 1) (objects_of s)
           (let n : ℕ = objects_of s in let lt' : i < n = lt in omega (arith, lt'))),
     )
@@ -66,7 +66,7 @@ pass_empty-requires-clause-full g c = λ k low high.
     let is : d ≡ u = c.slot_index-slot.ensures in let end : c.slot_index.result ≡ w = c.slot_index.ensures in
     let most : w ≤ t = slots_rise_on s (i + 1) (objects_of s)
     (let n : ℕ = objects_of s in let lt' : i < n = lt in omega (arith, lt')) in
-    ap (λ l. slice_index_or l k false) c.take-spot.ensures.others.1
+    ap (λ l. slice_index_or l k false) c.take-bare.ensures.others.1
     ∙ (get_or-set_other fs d k false false (λ e. omega (arith, e, low))
     ∙ c.loop-i.invariant.full k (let g : u ≤ k = omega (arith, is, low) in g)
     (let g : k < t = omega (arith, end, most, high) in g))
@@ -82,23 +82,23 @@ loop-i-preserved g c =
     let near : u < t = slots_rise s i (objects_of s) lt in let up : u < w = slots_rise s i (i + 1) (omega arith) in
     let long : length ws ≡ i = search (rules, c.loop-i.invariant.many) in
     let values : slots_items c.pass_empty.new.closed.slots ≡ xs = c.pass_empty.ensures.same.0
-    ∙ c.take-spot.ensures.others.0 in
-    let other : (k : ℕ) → k ≢ d → slice_index_or (slots_filled c.take-spot.new.self.slots) k false
+    ∙ c.take-bare.ensures.others.0 in
+    let other : (k : ℕ) → k ≢ d → slice_index_or (slots_filled c.take-bare.new.self.slots) k false
     ≡ slice_index_or fs k false =
-    (λ k ne. ap (λ l. slice_index_or l k false) c.take-spot.ensures.others.1
+    (λ k ne. ap (λ l. slice_index_or l k false) c.take-bare.ensures.others.1
     ∙ get_or-set_other fs d k false false ne) in
     record {
       many = c.in-Ok.ensures.len ∙ (let a = c.loop-i.invariant.many in omega (arith, a));
       laid = λ k near. ap (λ l. get_elem? l k) c.in-Ok.ensures.items ∙ (dite (ℕ_discrete k i)
           (λ e. at_last ws x k (long ∙ sym e)
-          ∙ (sym (c.take-spot.ensures.value ∙ ap some c.take.ensures.0)
+          ∙ (sym (c.take-bare.ensures.value ∙ ap some c.take.ensures.0)
           ∙ ap (λ (n : ℕ). get_elem? xs n) (is ∙ ap (slot_at s) (sym e))))
           (λ ne. at_left ws x k (subst (λ (n : ℕ). k < n) (sym long) (omega (arith, near, ne)))
           ∙ c.loop-i.invariant.laid k (omega (arith, near, ne)))
           ∙ ap (λ l. get_elem? l (slot_at s k)) (sym values));
       room = (let a = c.loop-i.invariant.room in let b = c.in-Ok.ensures.capacity in omega (arith, a, b));
       same = values ∙ c.loop-i.invariant.same;
-      count = c.pass_empty.ensures.same.1 ∙ (c.take-spot.ensures.others.2 ∙ c.loop-i.invariant.count);
+      count = c.pass_empty.ensures.same.1 ∙ (c.take-bare.ensures.others.2 ∙ c.loop-i.invariant.count);
       full =
           λ k le lt. (let le' : w ≤ k = le in c.pass_empty.ensures.behind k
           (let g : c.slot_index.result ≤ k = omega (arith, le', end) in g)
@@ -106,7 +106,7 @@ loop-i-preserved g c =
           ∙ c.loop-i.invariant.full k (let g : u ≤ k = omega (arith, up, le') in g) lt));
       empty = λ k lt. (let lt' : k < w = lt in dite (dec_le k d)
           (λ le. c.pass_empty.ensures.before k le ∙ dite (ℕ_discrete k d)
-          (λ e. ap (λ l. slice_index_or l k false) c.take-spot.ensures.others.1
+          (λ e. ap (λ l. slice_index_or l k false) c.take-bare.ensures.others.1
           ∙ (ap (λ j. slice_index_or (slice_set fs d false) j false) e
           ∙ get_or-set_same fs d false false
           (let a = (slots_counts c.loop-i.closed.slots).1 in let b = c.loop-i.invariant.count in let n : ℕ =

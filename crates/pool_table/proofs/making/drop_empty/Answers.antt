@@ -21,12 +21,12 @@ pub leave-requires : goal.leave-requires
 leave-requires g c =
     let n : ℕ = c.args.count in let k : ℕ = c.loop-dropped._dropped in let test = c.loop-dropped-test.true in
     let e : n - k ≡ suc (n - (k + 1)) = omega (arith, test) in
-    (gap_less c.loop-dropped.slots.items g.before c.pop.new.self.items (n - (k + 1)) None c.in-Some.spot
+    (gap_less c.loop-dropped.slots.items g.before c.pop.new.self.items (n - (k + 1)) None c.in-Some.bare
     (c.loop-dropped.invariant ∙ ap (λ m. g.before ++ replicate m None) e) c.in-Some.ensures.items).1
 
 pub loop-dropped-preserved : goal.loop-dropped-preserved
 loop-dropped-preserved g c =
     let n : ℕ = c.args.count in let k : ℕ = c.loop-dropped._dropped in let test = c.loop-dropped-test.true in
     let e : n - k ≡ suc (n - (k + 1)) = omega (arith, test) in
-    (gap_less c.loop-dropped.slots.items g.before c.pop.new.self.items (n - (k + 1)) None c.in-Some.spot
+    (gap_less c.loop-dropped.slots.items g.before c.pop.new.self.items (n - (k + 1)) None c.in-Some.bare
     (c.loop-dropped.invariant ∙ ap (λ m. g.before ++ replicate m None) e) c.in-Some.ensures.items).0

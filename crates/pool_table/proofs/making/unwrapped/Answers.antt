@@ -43,7 +43,7 @@ take-requires g c =
     let r = last_slot s slots c.loop-left.left gap c.loop-left.invariant.laid c.loop-left.invariant.left
     c.loop-left-test.true c.gap_count.ensures in
     ap is_some
-    (last_once c.pop.new.self.items (laid_out s 0 r.0) c.in-Some.spot (Some r.1)
+    (last_once c.pop.new.self.items (laid_out s 0 r.0) c.in-Some.bare (Some r.1)
     (sym c.in-Some.ensures.items ∙ (c.drop_empty.ensures ∙ r.5))).1
 
 pub loop-left-preserved : goal.loop-left-preserved
@@ -51,7 +51,7 @@ loop-left-preserved g c =
     let s = c.args.shape.now in let slots = c.loop-left.slots.items in let gap : ℕ = c.gap_count.result in
     let r = last_slot s slots c.loop-left.left gap c.loop-left.invariant.laid c.loop-left.invariant.left
     c.loop-left-test.true c.gap_count.ensures in
-    let last = last_once c.pop.new.self.items (laid_out s 0 r.0) c.in-Some.spot (Some r.1)
+    let last = last_once c.pop.new.self.items (laid_out s 0 r.0) c.in-Some.bare (Some r.1)
     (sym c.in-Some.ensures.items ∙ (c.drop_empty.ensures ∙ r.5)) in
     let same = some_once r.1 c.take.result (sym last.1 ∙ c.take.ensures.0) in
     let still = still_laid s c.pop.new.self.items r.0 (c.loop-left.left - 1) last.0 r.4 in

@@ -1,5 +1,5 @@
 use Rattle.std.proofs.Common.{◌≡◌, ◌≤◌, ◌∙◌, sym, subst, ap, List}
-use Rattle.run_picture.specs.declared.picture.Plot.{Plot}
+use Rattle.run_picture.specs.declared.plots.Plot.{Plot}
 use Rattle.run_picture.specs.declared.thinning.TheConstants.{BLOCK_LIMIT}
 use Rattle.run_picture.specs.Plotting.{plot_marks, taking_count}
 use Rattle.run_picture.proofs.PlotLemmas.{has-blocks}

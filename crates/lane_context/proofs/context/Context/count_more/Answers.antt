@@ -48,5 +48,5 @@ returns c =
     let old = c.args.self.now in let start : Context = record old { seat = c.retain.new.seat } in
     has_retained c.args.pool.now old start c.note.new.self c.args.root c.add.new.self refl c.retain.ensures.same
     c.retain.ensures.seat c.retain.ensures.did
-    (subst (λ (n : Note). HasNoted start c.note.new.self (n ∷ [])) c.to.ensures c.note.ensures)
+    (subst (λ (n : Note). HasNoted start c.note.new.self (n ∷ [])) c.note_to.ensures c.note.ensures)
     (record { counts = c.add.ensures.counts; places = c.add.ensures.places })

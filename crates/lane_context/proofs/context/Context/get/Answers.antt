@@ -31,7 +31,7 @@ returns-in-Did c =
     ∙ take-append_seam bytes (drop (length bytes) note.items) in
     let noted : HasNoted start mid (Note.At (Root reach.root.place) did.number (Did.Get reach.offset bytes) ∷ []) =
     subst (λ (n : Note). HasNoted start mid (n ∷ []))
-    (c.at.ensures ∙ ap (λ (bs : List ℕ). Note.At (Root reach.root.place) did.number (Did.Get reach.offset bs))
+    (c.note_at.ensures ∙ ap (λ (bs : List ℕ). Note.At (Root reach.root.place) did.number (Did.Get reach.offset bs))
     (c.of-bytes.ensures ∙ whole)) c.note.ensures in
     let answers : c.of.result ≡ bytes = c.of.ensures ∙ c.copy_from_slice.ensures.items ∙ c.deref.ensures.value
     ∙ whole in

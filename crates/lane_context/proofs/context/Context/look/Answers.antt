@@ -57,7 +57,7 @@ answer-requires-2 c =
     let start : Context = record c.args.self.now { seat = c.look-count.new.seat } in
     can_answer_noted c.args.pool.now (left_for c.args.self.now.composes
     (Command.Refcnt c.args.name)) c.args.self.now c.requires (omega arith)
-    start c.note.new.self c.to.result c.note.ensures refl
+    start c.note.new.self c.note_to.result c.note.ensures refl
 
 pub returns : goal.returns
 returns c = λ s state.
@@ -69,7 +69,8 @@ returns c = λ s state.
     subst (λ (t : Turn). HasTurned pool old new s (Command.Refcnt c.args.name) Ready t) (sym c.answer-2.ensures.ready)
     (look_turn pool c.args.name old start mid new c.requires refl c.look-count.ensures.same c.look-count.ensures.seat
     c.in-Ok-View.view ok.0 ok.1 c.look-count.result c.look-count.ensures.did
-    (subst (λ (n : Note). HasNoted start mid (n ∷ [])) c.to.ensures c.note.ensures) c.answer-2.ensures.replied s state)
+    (subst (λ (n : Note). HasNoted start mid (n ∷ [])) c.note_to.ensures c.note.ensures) c.answer-2.ensures.replied s
+      state)
 
 pub returns-in-Ok-Composite : goal.returns-in-Ok-Composite
 returns-in-Ok-Composite c = λ s state.

@@ -36,5 +36,5 @@ returns g c =
     has_posted c.args.pool.now old start c.note.new.self refl post.ensures.same post.ensures.seat c.args.lane
     post.result c.args.sent post.ensures.posted
     (subst (λ (n : Note). HasNoted start c.note.new.self (n ∷ []))
-    (c.at.ensures ∙ ap (λ (from : ℕ). Note.At (Mail from c.args.lane) post.result (Did.Post c.args.sent))
+    (c.note_at.ensures ∙ ap (λ (from : ℕ). Note.At (Mail from c.args.lane) post.result (Did.Post c.args.sent))
     c.lane_of.ensures.lane) c.note.ensures)

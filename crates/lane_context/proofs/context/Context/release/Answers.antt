@@ -64,7 +64,7 @@ answer-requires c =
     can_answer_noted c.args.pool.now (left_for c.args.self.now.composes
     (Command.Release c.args.name)) c.args.self.now c.requires.may
     (let n = release_notes c.args.self.now.composes c.args.name in omega (arith, n))
-    start c.note.new.self c.to.result c.note.ensures refl
+    start c.note.new.self c.note_to.result c.note.ensures refl
 
 pub returns-in-Kept : goal.returns-in-Kept
 returns-in-Kept c = λ s state.
@@ -78,7 +78,8 @@ returns-in-Kept c = λ s state.
     (kept_turn pool c.args.name old start mid new c.requires.may refl call.ensures.same call.ensures.seat view ok.0 ok.1
     (subst (λ (r : Release). IsReleasedAs r view.root old.seat call.new.seat) c.in-Kept.is call.ensures.did)
     (record { counts = c.take.ensures.counts; places = c.take.ensures.places })
-    (subst (λ (n : Note). HasNoted start mid (n ∷ [])) c.to.ensures c.note.ensures) c.answer.ensures.replied s state)
+    (subst (λ (n : Note). HasNoted start mid (n ∷ [])) c.note_to.ensures c.note.ensures) c.answer.ensures.replied s
+      state)
 
 pub returns-in-Ended : goal.returns-in-Ended
 returns-in-Ended c = λ s state.
@@ -92,7 +93,7 @@ returns-in-Ended c = λ s state.
     ended_turn pool c.args.name old start mid c.requires.may refl call.ensures.same call.ensures.seat view ok.0 ok.1
     token
     did.0 did.1 did.2 (record { counts = c.take.ensures.counts; places = c.take.ensures.places })
-    (subst (λ (n : Note). HasNoted start mid (n ∷ [])) c.to-in-Ended.ensures c.note-in-Ended.ensures) s state
+    (subst (λ (n : Note). HasNoted start mid (n ∷ [])) c.note_to-in-Ended.ensures c.note-in-Ended.ensures) s state
 
 -- a composite that has one count left has its last
 owns_last : (names : List (Option Bound)) (cs : List Counted) (name : ℕ) (w : Owned) (n : ℕ) → w ≡ OwnComposite n

@@ -55,7 +55,7 @@ answer-requires c =
     let start : Context = record c.args.self.now { seat = c.touch.new.seat } in
     can_answer_noted c.args.pool.now (left_for c.args.self.now.composes
     (Command.Touch c.args.name)) c.args.self.now c.requires (omega arith)
-    start c.note.new.self c.at.result c.note.ensures refl
+    start c.note.new.self c.note_at.result c.note.ensures refl
 
 pub returns-in-Did : goal.returns-in-Did
 returns-in-Did c = λ s state.
@@ -65,7 +65,8 @@ returns-in-Did c = λ s state.
     subst (λ (t : Turn). HasTurned pool old new s (Command.Touch c.args.name) Ready t) (sym c.answer.ensures.ready)
     (touch_turn pool c.args.name old start mid new c.requires refl did.ensures.same did.ensures.seat c.in-Ok.view.now.at
     ok.0 ok.1 did.number did.ensures.did
-    (subst (λ (n : Note). HasNoted start mid (n ∷ [])) c.at.ensures c.note.ensures) c.answer.ensures.replied s state)
+    (subst (λ (n : Note). HasNoted start mid (n ∷ [])) c.note_at.ensures c.note.ensures) c.answer.ensures.replied s
+      state)
 
 pub returns-in-Held : goal.returns-in-Held
 returns-in-Held c = λ s state.

@@ -8,7 +8,7 @@ use Rattle.pool_law.specs.Chunks.{Chunk, Sub}
 use Rattle.pool_law.specs.Arenas.{chunk_at, front_of, without_spot}
 use Rattle.pool_chunk.specs.ChunkStates.{HasSubpage}
 use Rattle.pool_arena.specs.Places.{PlaceState, state_of, runs_of}
-use Rattle.pool_arena.specs.Fronts.{FrontState}
+use Rattle.pool_arena.specs.SubpageLists.{SubpagesState}
 use Rattle.pool_arena.specs.Stocks.{StockState, arena_in, Becomes, HasChunk, IsIdleAt, subpage_given}
 use Rattle.pool_arena.specs.Held.{stock_in}
 use Rattle.pool_arena.specs.declared.stock.ChunkStock.TheInside.{Inside}
@@ -99,7 +99,7 @@ invariant_of-self c =
     (runs_of c.drop_subpage.new.self) (settles c) c.self.invariant
     (rooms-set (length s.places.items * chunk_pages s.classes) s.classes s.fronts.items c.args.class
     c.index_mut.result.now c.leave.new.self c.self.invariant.fronts (front_at c)
-    (ap (λ (f : FrontState). f.room) c.leave.ensures))
+    (ap (λ (f : SubpagesState). f.room) c.leave.ensures))
 
 pub returns : goal.returns
 returns c =
@@ -114,11 +114,11 @@ returns c =
     let some = subst (λ (rs : Chunk). NoneEmpty rs)
     (ap (λ (w : StockState). chunk_at (arena_in w) chunk) (sym c.self.view_is) ∙ place-chunk_at s chunk x found)
     c.requires.some in
-    let fronts : map (λ (f : FrontState). f.spots) (slice_set s.fronts.items class c.leave.new.self)
+    let fronts : map (λ (f : SubpagesState). f.spots) (slice_set s.fronts.items class c.leave.new.self)
     ≡ slice_set (stock_in s).fronts class (without_spot chunk page (front_of (arena_in (stock_in s)) class)) =
     spots-set s.fronts.items class c.leave.new.self
     ∙ ap (slice_set (stock_in s).fronts class)
-    (ap (λ (f : FrontState). f.spots) c.leave.ensures
+    (ap (λ (f : SubpagesState). f.spots) c.leave.ensures
     ∙ ap (without_spot chunk page) (sym (front_of-is s class c.index_mut.result.now (front_at c)))) in
     let becomes =
     given-law s (after c) c.self.invariant chunk page sub.pages (Sub class sub.elements) x c.drop_subpage.new.self

@@ -2,7 +2,7 @@ use Rattle.std.proofs.Common.{◌≡◌, ◌*◌, length, refl, sym, ap, ◌∙�
 use Rattle.std.specs.Vec.{with_item}
 use Rattle.size_classes.specs.Sizes.{Geometry, is_small, chunk_pages}
 use Rattle.size_classes.specs.Elements.{is_idle, with_back}
-use Rattle.pool_arena.specs.Fronts.{FrontState}
+use Rattle.pool_arena.specs.SubpageLists.{SubpagesState}
 use Rattle.pool_arena.specs.Stocks.{StockState, Becomes, IsElementOutOf, element_back}
 use Rattle.pool_arena.specs.Held.{stock_in}
 use Rattle.pool_arena.specs.declared.stock.ChunkStock.TheInside.{Inside}
@@ -90,7 +90,7 @@ invariant_of-self c =
     (some_at s c.args.self.now c.args.spot.chunk x c.self.view_is found c.requires.some)
     (rooms-set (length s.places.items * chunk_pages s.classes) s.classes s.fronts.items c.args.class
     c.index_mut.result.now c.enter.new.self c.self.invariant.fronts front
-    (ap (λ (f : FrontState). f.room) c.enter.ensures))
+    (ap (λ (f : SubpagesState). f.room) c.enter.ensures))
 
 pub invariant_of-self-else-was_full : goal.invariant_of-self-else-was_full
 invariant_of-self-else-was_full c =
@@ -157,7 +157,7 @@ returns-then-was_full-clause-back c =
     (out-element s c.self.invariant c.args.class c.args.spot.chunk c.args.spot.page c.args.index c.args.piece x o
     found)) refl refl refl
     (full-back s c.args.class c.args.spot.chunk c.args.spot.page o.elements c.index_mut.result.now c.enter.new.self
-    (with_item s.fronts c.args.class c.enter.new.self).items front (ap (λ (f : FrontState). f.spots) c.enter.ensures)
+    (with_item s.fronts c.args.class c.enter.new.self).items front (ap (λ (f : SubpagesState). f.spots) c.enter.ensures)
     refl full))
 
 pub returns-else-was_full-clause-back : goal.returns-else-was_full-clause-back

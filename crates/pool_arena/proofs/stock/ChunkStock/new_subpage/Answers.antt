@@ -5,7 +5,7 @@ use Rattle.size_classes.specs.Sizes.{Geometry, is_small, chunk_pages}
 use Rattle.pool_law.specs.Arenas.{with_subpage}
 use Rattle.pool_arena.specs.declared.place.Wanted.{Wanted}
 use Rattle.pool_arena.specs.declared.place.Cut.{Cut}
-use Rattle.pool_arena.specs.Fronts.{FrontState}
+use Rattle.pool_arena.specs.SubpageLists.{SubpagesState}
 use Rattle.pool_arena.specs.Stocks.{StockState, Becomes, Yields, run_wanted, IsCutIn}
 use Rattle.pool_arena.specs.Held.{stock_in}
 use Rattle.pool_arena.proofs.FrontsLaws.{front-found, front-room, rooms-set, with_fronts, fronts-held, enter-law}
@@ -36,7 +36,7 @@ invariant_of-self c =
     fronts-held s (with_item s.fronts c.args.class c.enter.new.self) c.self.invariant
     (rooms-set (length s.places.items * chunk_pages s.classes) s.classes s.fronts.items c.args.class
     c.index_mut.result.now c.enter.new.self c.self.invariant.fronts found
-    (ap (λ (f : FrontState). f.room) c.enter.ensures))
+    (ap (λ (f : SubpagesState). f.room) c.enter.ensures))
 
 pub returns-clause-some : goal.returns-clause-some
 returns-clause-some c =

@@ -5,7 +5,7 @@ use Rattle.size_classes.specs.Sizes.{chunk_pages}
 use Rattle.size_classes.specs.Elements.{with_out}
 use Rattle.pool_law.specs.Arenas.{take_element}
 use Rattle.pool_arena.specs.Places.{PlaceState}
-use Rattle.pool_arena.specs.Fronts.{FrontState}
+use Rattle.pool_arena.specs.SubpageLists.{SubpagesState}
 use Rattle.pool_arena.specs.Stocks.{StockState, IsOpen, GivesPlace}
 use Rattle.pool_arena.specs.Held.{stock_in}
 use Rattle.pool_arena.specs.declared.stock.ChunkStock.TheInside.{Inside}
@@ -79,7 +79,7 @@ invariant_of-self c =
     (some_at s c.args.self.now c.args.spot.chunk x c.self.view_is found c.requires.some)
     (rooms-set (length s.places.items * chunk_pages s.classes) s.classes s.fronts.items c.args.class
     c.index_mut.result.now c.leave.new.self c.self.invariant.fronts front
-    (ap (λ (f : FrontState). f.room) c.leave.ensures))
+    (ap (λ (f : SubpagesState). f.room) c.leave.ensures))
 
 pub invariant_of-self-else-is_full : goal.invariant_of-self-else-is_full
 invariant_of-self-else-is_full c =
@@ -115,7 +115,7 @@ returns-then-is_full c =
     c.take_element-piece.new.self found o c.take_element-piece.result out refl refl refl
     (full-fronts s c.args.class c.args.spot.chunk c.args.spot.page (with_out o.elements out.element)
     c.index_mut.result.now c.leave.new.self
-    (with_item s.fronts c.args.class c.leave.new.self).items front (ap (λ (f : FrontState). f.spots) c.leave.ensures)
+    (with_item s.fronts c.args.class c.leave.new.self).items front (ap (λ (f : SubpagesState). f.spots) c.leave.ensures)
     refl full))
 
 pub returns-else-is_full : goal.returns-else-is_full

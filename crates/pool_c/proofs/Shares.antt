@@ -1,1 +1,0 @@
--- What the threads of a pool have for its life: equal shares of what it can count.

@@ -1,8 +1,0 @@
-use Rattle.std.specs.Prelude.{⊤}
-use Rattle.shared_pool.proofs.opening.spend_all.Given as goal
-
-abbrev pub invariant-loop-home : goal.invariant-loop-home
-invariant-loop-home l = ⊤
-
-abbrev pub decreases-loop-home : goal.decreases-loop-home
-decreases-loop-home l = goal.left-loop-home l
