@@ -30,9 +30,13 @@ fn asked<B: PoolName, R: Abort + Wait>(
         assert!(rt; me.capacity(rt, pool, all, size) == answer);
     }
     let mut out = [9u8; 3];
-    assert!(rt; all.len() == 112 && me.get(rt, pool, &*all, 14, &mut out) == Ok(()));
-    assert!(rt; out == [0, 255, 0]);
-    assert!(rt; me.get(rt, pool, &*all, 109, &mut out) == Ok(()) && out == [0, 0, 0]);
+    assert!(rt;
+        all.len() == 112
+            && me.get(rt, pool, &*all, 14, &mut out) == Ok(())
+            && out == [0, 255, 0]
+            && me.get(rt, pool, &*all, 109, &mut out) == Ok(())
+            && out == [0, 0, 0]
+    );
 }
 
 // A slice that was there before stays, until it reaches as far by its own. The other thread knows of the
@@ -45,10 +49,15 @@ fn reached<B: PoolName, R: Abort + Wait>(
     part: Buffer<B>,
 ) {
     let mut part = part;
-    assert!(rt; part.len() == 4 && part.ends() == (0, 4));
-    assert!(rt; second.capacity(rt, pool, &mut part, 10) == Err(CapacityNo::NotHere));
-    assert!(rt; first.capacity(rt, pool, &mut part, 10) == Ok(112));
-    assert!(rt; part.len() == 104 && part.ends() == (0, 4) && part.offset() == 8);
+    assert!(rt;
+        part.len() == 4
+            && part.ends() == (0, 4)
+            && second.capacity(rt, pool, &mut part, 10) == Err(CapacityNo::NotHere)
+            && first.capacity(rt, pool, &mut part, 10) == Ok(112)
+            && part.len() == 104
+            && part.ends() == (0, 4)
+            && part.offset() == 8
+    );
     let sent = parcel(rt, pool, first, part);
     let part = accepted(rt, pool, second, sent);
     let mut out = [9u8; 2];
@@ -105,8 +114,9 @@ impl<'a, R: Abort + Wait> Serve for Spends<'a, R> {
             panic!(rt; "there is a thread")
         };
         let mut only = buffer(rt, me.alloc(rt, &pool, 8));
-        assert!(rt; me.capacity(rt, &pool, &mut only, 9) == Err(CapacityNo::Spent));
-        assert!(rt; only.len() == 8);
+        assert!(rt;
+            me.capacity(rt, &pool, &mut only, 9) == Err(CapacityNo::Spent) && only.len() == 8
+        );
         only.leave();
         threads.push_reserved(me);
         pool.abandon(threads);

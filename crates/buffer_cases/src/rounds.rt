@@ -52,18 +52,25 @@ fn accesses<B: PoolName, R: Abort + Wait>(
 ) -> Buffer<B> {
     assert!(rt; refused(me.alloc(rt, pool, CHUNK + 1)) == Some(AllocNo::TooLarge));
     let mut all = buffer(rt, me.alloc(rt, pool, CHUNK));
-    assert!(rt; all.len() == CHUNK && all.offset() == 0 && all.thread() == 0);
-    assert!(rt; refused(me.alloc(rt, pool, CHUNK)) == Some(AllocNo::Full));
-    assert!(rt; me.set(rt, pool, &all, CHUNK - 2, &[1, 2]) == Ok(()));
-    assert!(rt; me.set(rt, pool, &all, CHUNK - 1, &[3, 4]) == Err(AccessNo::Range));
+    assert!(rt;
+        all.len() == CHUNK
+            && all.offset() == 0
+            && all.thread() == 0
+            && refused(me.alloc(rt, pool, CHUNK)) == Some(AllocNo::Full)
+            && me.set(rt, pool, &all, CHUNK - 2, &[1, 2]) == Ok(())
+            && me.set(rt, pool, &all, CHUNK - 1, &[3, 4]) == Err(AccessNo::Range)
+    );
     let mut out = [9u8; 3];
-    assert!(rt; me.get(rt, pool, &all, CHUNK - 3, &mut out) == Ok(()));
-    assert!(rt; out == [0, 1, 2]);
-    assert!(rt; me.write(rt, pool, &mut all, &[5, 6, 7, 8]) == Ok(()));
-    assert!(rt; me.read(rt, pool, &mut all, &mut out) == Ok(()));
-    assert!(rt; out == [5, 6, 7]);
-    assert!(rt; me.read(rt, pool, &mut all, &mut out) == Err(AccessNo::Range));
-    assert!(rt; all.ends() == (3, 4) && out == [5, 6, 7]);
+    assert!(rt;
+        me.get(rt, pool, &all, CHUNK - 3, &mut out) == Ok(())
+            && out == [0, 1, 2]
+            && me.write(rt, pool, &mut all, &[5, 6, 7, 8]) == Ok(())
+            && me.read(rt, pool, &mut all, &mut out) == Ok(())
+            && out == [5, 6, 7]
+            && me.read(rt, pool, &mut all, &mut out) == Err(AccessNo::Range)
+            && all.ends() == (3, 4)
+            && out == [5, 6, 7]
+    );
     all
 }
 
@@ -75,8 +82,12 @@ fn slices<B: PoolName, R: Abort + Wait>(
     all: &Buffer<B>,
 ) -> Buffer<B> {
     let part = buffer(rt, me.slice(pool, all, 1, 3));
-    assert!(rt; part.len() == 3 && part.offset() == 1 && part.ends() == (0, 3));
-    assert!(rt; refused(me.slice(pool, &part, 2, 2)) == Some(AccessNo::Range));
+    assert!(rt;
+        part.len() == 3
+            && part.offset() == 1
+            && part.ends() == (0, 3)
+            && refused(me.slice(pool, &part, 2, 2)) == Some(AccessNo::Range)
+    );
     let last = buffer(rt, me.slice(pool, &part, 2, 1));
     assert!(rt; last.offset() == 3 && me.refcnt(pool, all) == Ok(3));
     let byte = me.with_bytes(rt, pool, &last, 0, 1, |bytes: &[u8]| bytes.first().copied());
@@ -177,8 +188,13 @@ fn hand_over<B: PoolName, R: Abort + Wait>(
     let two = comes_back(rt, pool, second, two, AcceptNo::OutOfOrder);
     let all = accepted(rt, pool, second, one);
     let part = accepted(rt, pool, second, two);
-    assert!(rt; all.thread() == 1 && all.ends() == (3, 4) && part.offset() == 1);
-    assert!(rt; second.get(rt, pool, &part, 2, &mut out) == Ok(()) && out == [6]);
+    assert!(rt;
+        all.thread() == 1
+            && all.ends() == (3, 4)
+            && part.offset() == 1
+            && second.get(rt, pool, &part, 2, &mut out) == Ok(())
+            && out == [6]
+    );
     ends(rt, pool, second, all, false);
     ends(rt, pool, second, part, true);
 }
@@ -287,11 +303,13 @@ impl<'a, R: Abort + Wait> Serve for Spends<'a, R> {
             panic!(rt; "there is a thread")
         };
         let only = buffer(rt, me.alloc(rt, &pool, 8));
-        assert!(rt; me.left() == (1, 0));
-        assert!(rt; refused(me.retain(&pool, &only)) == Some(AccessNo::Spent));
-        assert!(rt; me.touch(rt, &pool, &only) == Ok(()));
-        assert!(rt; me.touch(rt, &pool, &only) == Err(AccessNo::Spent));
-        assert!(rt; refused(me.alloc(rt, &pool, 8)) == Some(AllocNo::Spent));
+        assert!(rt;
+            me.left() == (1, 0)
+                && refused(me.retain(&pool, &only)) == Some(AccessNo::Spent)
+                && me.touch(rt, &pool, &only) == Ok(())
+                && me.touch(rt, &pool, &only) == Err(AccessNo::Spent)
+                && refused(me.alloc(rt, &pool, 8)) == Some(AllocNo::Spent)
+        );
         match me.release(rt, &pool, only) {
             Ok(_last) => panic!(rt; "no turns are left"),
             Err(Back { why, buffer }) => {

@@ -34,13 +34,18 @@ fn accesses<B: PoolName, R: Abort>(
     buffer: &mut Buffer<B>,
 ) {
     let mut out = [9u8; 3];
-    assert!(rt; me.try_set(pool, buffer, 6, &[1, 2]) == Ok(()));
-    assert!(rt; me.try_set(pool, buffer, 7, &[3, 4]) == Err(TryNo::Refused(AccessNo::Range)));
-    assert!(rt; me.try_get(pool, buffer, 5, &mut out) == Ok(()) && out == [0, 1, 2]);
-    assert!(rt; me.try_write(pool, buffer, &[5, 6, 7, 8]) == Ok(()));
-    assert!(rt; me.try_read(pool, buffer, &mut out) == Ok(()) && out == [5, 6, 7]);
-    assert!(rt; me.try_read(pool, buffer, &mut out) == Err(TryNo::Refused(AccessNo::Range)));
-    assert!(rt; buffer.ends() == (3, 4) && out == [5, 6, 7]);
+    assert!(rt;
+        me.try_set(pool, buffer, 6, &[1, 2]) == Ok(())
+            && me.try_set(pool, buffer, 7, &[3, 4]) == Err(TryNo::Refused(AccessNo::Range))
+            && me.try_get(pool, buffer, 5, &mut out) == Ok(())
+            && out == [0, 1, 2]
+            && me.try_write(pool, buffer, &[5, 6, 7, 8]) == Ok(())
+            && me.try_read(pool, buffer, &mut out) == Ok(())
+            && out == [5, 6, 7]
+            && me.try_read(pool, buffer, &mut out) == Err(TryNo::Refused(AccessNo::Range))
+            && buffer.ends() == (3, 4)
+            && out == [5, 6, 7]
+    );
     match me.try_with_bytes(pool, buffer, 3, 1, |bytes: &[u8]| bytes.first().copied()) {
         Ok(byte) => assert!(rt; byte == Some(8)),
         Err(_no) => panic!(rt; "the byte is shown"),
@@ -95,8 +100,7 @@ fn takes_all<B: PoolName, R: Abort + Wait>(rt: &R, pool: &Pool<B>, me: &mut Pool
         assert!(rt; me.try_trim(pool) == Ok(()) && me.trim(rt, pool) == Ok(()));
     }
     let large = Some(TryAllocNo::Refused(AllocNo::TooLarge));
-    assert!(rt; refused(me.try_alloc(pool, CHUNK + 1)) == large);
-    assert!(rt; me.try_settle(pool));
+    assert!(rt; refused(me.try_alloc(pool, CHUNK + 1)) == large && me.try_settle(pool));
     me.settle(rt, pool);
 }
 
