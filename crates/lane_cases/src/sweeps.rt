@@ -56,7 +56,7 @@ fn wait(flag: &AtomicBool) {
 }
 
 // Steps the lane to its end, or so often. The answer is whether it ended, and what held it up first.
-fn steps<R: Abort + Wait>(
+fn step_on<R: Abort + Wait>(
     rt: &R,
     alloc: Global,
     pool: &SharedPool,
@@ -100,7 +100,7 @@ fn sweeps<R: Abort + Wait>(
     ensures finished { IsFinished lane.new }
 {
     wait(inside);
-    let (ended, held) = steps(rt, alloc, pool, lane, u64::MAX);
+    let (ended, held) = step_on(rt, alloc, pool, lane, u64::MAX);
     over.store(true, Ordering::SeqCst);
     assert!(rt; ended);
     held
@@ -143,7 +143,7 @@ fn swept<R: Threads + Abort + Wait + Sync>(
     requires other { Works pool.now empty_hand 1000001 0 other.old }
     ensures finished { IsFinished lane.new }
 {
-    let (ended, held) = steps(rt, alloc, pool, lane, STEPS);
+    let (ended, held) = step_on(rt, alloc, pool, lane, STEPS);
     assert!(rt; !ended && held.is_none());
     let root = fetched(rt, pool, other);
     meet(rt, alloc, pool, lane, other, root)
