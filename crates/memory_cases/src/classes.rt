@@ -58,8 +58,7 @@ const PAGES: [u32; 40] = [
 
 fn small_rows(rt: &impl Abort, classes: &SizeClasses) {
     for class in 0..39u32 {
-        assert!(rt; class < classes.count());
-        assert!(rt; classes.is_small(class));
+        assert!(rt; class < classes.count() && classes.is_small(class));
         let size = classes.size_of(class);
         let pages = classes.subpage_pages(class);
         let found = (size, pages, 8192 * pages / size);
@@ -74,8 +73,10 @@ fn normal_rows(rt: &impl Abort, classes: &SizeClasses) {
         assert!(rt; !classes.is_small(class));
         let pages = classes.pages_of(class);
         let size = 8192 * u64::from(pages);
-        assert!(rt; u64::from(classes.size_of(class)) == size, "class {class}");
-        assert!(rt; pages == PAGES[class as usize - 36]);
+        assert!(rt;
+            u64::from(classes.size_of(class)) == size && pages == PAGES[class as usize - 36],
+            "class {class}"
+        );
     }
 }
 
@@ -96,11 +97,11 @@ fn rows(rt: &impl Abort, alloc: Global, order: u32)
     requires { IsGeometry (of_pages order 8192) }
 {
     let classes = SizeClasses::new(alloc, order, DEFAULT_PAGE).expect(rt, "ample memory");
-    assert!(rt; classes.count() == 4 * order + 32);
     small_rows(rt, &classes);
     normal_rows(rt, &classes);
     page_class_rows(rt, &classes, order, DEFAULT_PAGE);
-    assert!(rt; classes.size_of(4 * order + 31) == 8192 * 2u32.pow(order));
+    let last = 4 * order + 31;
+    assert!(rt; classes.count() == last + 1 && classes.size_of(last) == 8192 * 2u32.pow(order));
 }
 
 #[test]
@@ -110,38 +111,33 @@ fn the_tables_of_three_orders(rt: HostRuntime) {
     rows(&rt, rt.alloc(), 11);
 }
 
-#[test]
-fn single_calls(rt: HostRuntime) {
-    let classes = SizeClasses::new(rt.alloc(), 9, DEFAULT_PAGE).expect(&rt, "ample memory");
-    assert!(rt; classes.count() == 68);
-    assert!(rt; classes.class_of(0) == Some(0));
-    assert!(rt; classes.class_of(4096) == Some(27));
-    assert!(rt; classes.class_of(4097) == Some(28));
-    assert!(rt; classes.class_of(28673) == Some(39));
-    assert!(rt; classes.class_of(4194305) == None);
-    assert!(rt; classes.size_of(67) == 4194304);
-    assert!(rt; classes.page_class_up(9) == 8);
-    assert!(rt; classes.page_class_down(9) == 7);
-}
+// Sizes of a chunk of 4 MiB, and the class of each.
+const CLASSES: [(u32, u32); 4] = [(0, 0), (4096, 27), (4097, 28), (28673, 39)];
 
-// The classes of a chunk of 4 MiB: how many are small, the pages of the last small one's subpage,
-// and the pages of the first normal one.
+// The classes of a chunk of 4 MiB: how many are small, the pages of the last small one's subpage and of
+// the first normal one, and the last class, beyond which there is none.
 fn last_small(rt: &impl Abort, classes: &SizeClasses, small: u32) {
-    assert!(rt; classes.count() == 68);
-    assert!(rt; classes.small_count() == small);
-    assert!(rt; 0 < small && small < classes.count());
-    assert!(rt; classes.is_small(small - 1));
-    assert!(rt; classes.subpage_pages(small - 1) == 7);
-    assert!(rt; !classes.is_small(small));
-    assert!(rt; classes.pages_of(small) == 4);
-    assert!(rt; classes.class_of(4194304) == Some(67));
-    assert!(rt; classes.class_of(4194305) == None);
+    assert!(rt; classes.count() == 68 && classes.small_count() == small);
+    assert!(rt; 0 < small && small < 68 && classes.is_small(small - 1) && !classes.is_small(small));
+    assert!(rt;
+        classes.subpage_pages(small - 1) == 7
+            && classes.pages_of(small) == 4
+            && classes.size_of(67) == 4194304
+            && classes.class_of(4194304) == Some(67)
+            && classes.class_of(4194305) == None
+    );
 }
 
 #[test]
-fn other_pages(rt: HostRuntime) {
+fn a_chunk_of_4_mib(rt: HostRuntime) {
     let least = SizeClasses::new(rt.alloc(), 10, 4096).expect(&rt, "ample memory");
     last_small(&rt, &least, 35);
     let most = SizeClasses::new(rt.alloc(), 7, 32768).expect(&rt, "ample memory");
     last_small(&rt, &most, 47);
+    let classes = SizeClasses::new(rt.alloc(), 9, DEFAULT_PAGE).expect(&rt, "ample memory");
+    last_small(&rt, &classes, 39);
+    for (size, class) in CLASSES {
+        assert!(rt; classes.class_of(size) == Some(class), "a size of {size}");
+    }
+    assert!(rt; classes.page_class_up(9) == 8 && classes.page_class_down(9) == 7);
 }

@@ -7,6 +7,9 @@ use ground::{Ground, Piece};
 use std::process::Abort;
 use subpage_bits::Subpage;
 
+// A subpage is small.
+const _: () = prove!(size_of::<Subpage>() <= 1024);
+
 // The next element, which has to be this one.
 fn taken(rt: &impl Abort, subpage: &mut Subpage, i: u32) -> Piece
     ensures { HandsOut subpage.old subpage.new result i }
@@ -58,9 +61,4 @@ fn an_idle_subpage_is_a_run_again(rt: HostRuntime) {
     let run = Subpage::of(ground, 2048).into_run();
     assert!(rt; run.start() == 0 && run.len() == 8192);
     run.close(deed);
-}
-
-#[test]
-fn a_subpage_is_small(rt: HostRuntime) {
-    assert!(rt; std::mem::size_of::<Subpage>() <= 1024);
 }

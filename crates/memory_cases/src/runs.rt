@@ -5,6 +5,9 @@ use ground::Ground;
 use pool_law::Region;
 use run_map::RunMap;
 
+// A region is small.
+const _: () = prove!(size_of::<Region>() <= 72);
+
 #[test]
 fn the_whole_ground_comes_back(rt: HostRuntime) {
     let alloc = rt.alloc();
@@ -20,9 +23,4 @@ fn the_whole_ground_comes_back(rt: HostRuntime) {
             whole.close(deed);
         }
     }
-}
-
-#[test]
-fn a_region_is_small(rt: HostRuntime) {
-    assert!(rt; std::mem::size_of::<Region>() <= 72);
 }

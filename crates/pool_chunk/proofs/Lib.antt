@@ -7,6 +7,4 @@ pub mod SubpageTable
 pub mod CutLaws
 pub mod NewSubpages
 pub mod PlaceLaws
-pub mod OutLaws
 pub mod StartLaws
-pub mod EightPages

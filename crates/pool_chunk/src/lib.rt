@@ -10,6 +10,3 @@ mod slot;
 
 pub use chunk::{Chunk, Freed};
 pub use place::{place_pack, place_unpack};
-
-#[cfg(test)]
-mod tests;

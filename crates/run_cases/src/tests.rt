@@ -6,7 +6,8 @@ use pool_law::{
 use run_check::{Breach, check_run, find_breach};
 use size_classes::DEFAULT_PAGE;
 use std::alloc::{AllocError, Global};
-use std::test::Fail;
+use std::mem::ManuallyDrop;
+use std::process::Abort;
 
 // The caches of a lane.
 const CACHES: u32 = 40;
@@ -39,59 +40,80 @@ fn closing(alloc: Global) -> Result<Vec<Note>, AllocError> {
 }
 
 // A run over this pool of one lane with one command, which is answered so and said to have made so many notes.
-fn answered(alloc: Global, shape: Shape, command: Command, notes: u32) -> Result<Run, AllocError> {
+fn answered(
+    rt: &impl Abort,
+    alloc: Global,
+    shape: Shape,
+    command: Command,
+    notes: u32,
+) -> Run {
     let answer = Answered {
         reply: Reply::Unbound,
         notes,
     };
-    let log = LaneLog {
-        replies: Items::of(vec![in alloc; answer]?),
-        notes: Items::of(closing(alloc)?),
+    let Ok(replies) = vec![in alloc; answer] else {
+        panic!(rt; "ample memory")
     };
-    let commands = Items::of(vec![in alloc; command]?);
-    Ok(Run {
+    let Ok(notes) = closing(alloc) else {
+        panic!(rt; "ample memory")
+    };
+    let log = LaneLog {
+        replies: Items::of(replies),
+        notes: Items::of(notes),
+    };
+    let Ok(logs) = vec![in alloc; log] else {
+        panic!(rt; "ample memory")
+    };
+    let Ok(commands) = vec![in alloc; command] else {
+        panic!(rt; "ample memory")
+    };
+    let Ok(lanes) = vec![in alloc; Items::of(commands)] else {
+        panic!(rt; "ample memory")
+    };
+    Run {
         trace: Trace {
-            lanes: Items::of(vec![in alloc; commands]?),
+            lanes: Items::of(lanes),
         },
         shape,
-        logs: Items::of(vec![in alloc; log]?),
+        logs: Items::of(logs),
         chunks: Items::of(Vec::new(alloc)),
         leaks: Items::of(Vec::new(alloc)),
-    })
+    }
 }
 
-#[test]
-fn what_no_text_tells_is_refused(rt: HostRuntime) -> Result<(), Fail> {
-    let alloc = rt.alloc();
-    let touch = || Command::Touch { name: 0 };
-    let to_the_second = Command::Send { name: 0, lane: 1 };
-    let first = Breach::Answers {
-        lane: 0,
-        command: 0,
-    };
-    let rows = [
-        (shape(9, 1), touch(), 0, None, "the run as it must be"),
-        (shape(9, 1), touch(), 1, Some(first), "a note more"),
-        (
-            shape(12, 1),
-            touch(),
-            0,
-            Some(Breach::Measures),
-            "too large",
-        ),
-        (shape(9, 2), touch(), 0, Some(Breach::Lanes), "two lanes"),
-        (
-            shape(9, 1),
-            to_the_second,
-            0,
-            Some(Breach::Commands),
-            "to the second of one",
-        ),
-    ];
-    for (shape, command, notes, want, which) in rows {
-        let run = answered(alloc, shape, command, notes)?;
-        assert_eq!(rt; check_run(alloc, &run)?, want.is_none(), "{which}");
-        assert_eq!(rt; find_breach(alloc, &run)?, want, "{which}");
+// The order of the pool, its lanes, the lane to which the one command sends where it doesn't touch, how many
+// notes it is said to have made, and what is wrong then: nothing; a note more; too large; two lanes; and the
+// second lane of one.
+const ROWS: [(u32, u32, Option<u32>, u32, Option<Breach>); 5] = [
+    (9, 1, None, 0, None),
+    (9, 1, None, 1, Some(Breach::Answers { lane: 0, command: 0 })),
+    (12, 1, None, 0, Some(Breach::Measures)),
+    (9, 2, None, 0, Some(Breach::Lanes)),
+    (9, 1, Some(1), 0, Some(Breach::Commands)),
+];
+
+// Touches what it has no name for, or sends that to a lane.
+fn command_of(to: Option<u32>) -> Command {
+    match to {
+        None => Command::Touch { name: 0 },
+        Some(lane) => Command::Send { name: 0, lane },
     }
-    Ok(())
+}
+
+// Each run is left as it is.
+#[test]
+fn what_no_text_tells_is_refused(rt: HostRuntime) {
+    let alloc = rt.alloc();
+    for k in 0..5usize {
+        let (order, lanes, to, notes, want) = ROWS[k];
+        let run = answered(&rt, alloc, shape(order, lanes), command_of(to), notes);
+        let Ok(whole) = check_run(alloc, &run) else {
+            panic!(rt; "ample memory")
+        };
+        let Ok(found) = find_breach(alloc, &run) else {
+            panic!(rt; "ample memory")
+        };
+        assert!(rt; whole == want.is_none() && found == want, "row {k}");
+        let _run = unsafe { ManuallyDrop::new_unchecked(run) };
+    }
 }

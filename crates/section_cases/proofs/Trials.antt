@@ -42,7 +42,3 @@ first_handle s o h lane one bin empty =
           subst (λ (k : ℕ). IsTrue (is_some (after (bin_step 0 k) (new_bin 0 k) (Handle 0 ∷ [])))) (sym one) refl;
       right = ((refl, refl, refl), tt);
     })
-
--- a note that has its lane already is what this lane notes
-pub named_by : (n : Noted) (lane : Option ℕ) → n.lane ≡ Some 0 → lane ≡ Some 0 → noted_by lane n ≡ n
-named_by n lane own is = λ i. record n { lane = (is ∙ sym own) i }

@@ -28,8 +28,11 @@ fn letters_come_in_turn(rt: HostRuntime) -> Result<(), Fail> {
     let one = table.send(&mut first, 1, NOTHING);
     let two = table.send(&mut first, 1, NOTHING);
     let back = table.send(&mut second, 0, NOTHING);
-    assert!(rt; one.letter() == Some(letter(0, 1, 1)) && two.letter() == Some(letter(0, 1, 2)));
-    assert!(rt; first.letter().is_none());
+    assert!(rt;
+        one.letter() == Some(letter(0, 1, 1))
+            && two.letter() == Some(letter(0, 1, 2))
+            && first.letter().is_none()
+    );
     assert!(rt; table.receive(&mut second, one) == letter(0, 1, 1));
     assert!(rt; table.receive(&mut first, back) == letter(1, 0, 1));
     assert!(rt; table.receive(&mut second, two) == letter(0, 1, 2));

@@ -1,6 +1,5 @@
 #![tactic(auto)]
-//! The table of a pool as its caller uses it: sections, the counts of roots, letters and shares of
-//! moves.
+//! The table of a pool as its caller uses it: sections, and letters.
 //!
 //! A crate with tests is proved twice, once with them; these stand over the crate as it is built, so
 //! that it isn't proved again for them.
@@ -9,7 +8,5 @@
 mod diary;
 #[cfg(test)]
 mod letters;
-#[cfg(test)]
-mod moves;
 #[cfg(test)]
 mod sections;
