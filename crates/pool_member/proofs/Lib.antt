@@ -20,3 +20,4 @@ pub mod Opened
 pub mod Ended
 mod Skips
 pub mod Returns
+pub mod Beginnings

@@ -24,8 +24,7 @@ use crate::pool::Pool;
 use crate::thread::PoolThread;
 use byte_view::View;
 use pool_law::RootId;
-use pool_member::work::allocation::allocate;
-use pool_member::work::{counting, settling};
+use pool_member::work::{allocation, counting, settling};
 use pool_member::{AccessNo, AllocNo};
 use seat_tries::Begun;
 use std::marker::PhantomData;
@@ -41,6 +40,7 @@ impl<B: PoolName> PoolThread<B> {
     /// once. A refusal leaves its counts as they were, and which of its next buffers are watched;
     /// for want of turns, and where the buffer is too large, nothing has changed. Nothing is left to
     /// put away of what calls that never wait began.
+    #[inline(always)]
     pub fn alloc<W: Wait>(
         &mut self,
         rt: &W,
@@ -77,7 +77,13 @@ impl<B: PoolName> PoolThread<B> {
         if self.member.account.turns < ALLOC_TURNS {
             return Err(AllocNo::Spent);
         }
-        match allocate(rt, &pool.shared, &mut self.member, size, class) {
+        // It waits only where the first steps stopped.
+        let shared = &pool.shared;
+        let born = match allocation::begin(shared, &mut self.member, size, class) {
+            Ok(root) => Ok(root),
+            Err(stopped) => allocation::go_on(rt, shared, &mut self.member, stopped, size, class),
+        };
+        match born {
             Ok(root) => {
                 // By its parts, so that it stays in registers.
                 let RootId {
@@ -125,7 +131,7 @@ impl<B: PoolName> PoolThread<B> {
         }
         buffer.leave();
         let member = &mut self.member;
-        // Waits only where there is something to put away.
+        // It waits only where there is something to put away.
         if !settling::is_nothing(&member.pending) {
             settling::settle(rt, &pool.shared, member);
         }
