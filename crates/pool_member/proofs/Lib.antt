@@ -1,6 +1,7 @@
 mod CountLaws
 mod ToldLaws
 mod AloneLaws
+mod PlaceLaws
 pub mod Letters
 pub mod Pendings
 pub mod Alone

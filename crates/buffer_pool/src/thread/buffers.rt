@@ -125,7 +125,7 @@ impl<B: PoolName> PoolThread<B> {
         ensures settled { OnOk result (IsSettled self.new) }
         ensures back { IfErr result (λ back. (back.buffer ≡ buffer) × (self.new ≡ self.old)) }
     {
-        let root = buffer.view.at.root;
+        let root = buffer.root();
         if let Err(why) = buffer.may(&self.member.account, RELEASE_TURNS) {
             return Err(Back { why, buffer });
         }
@@ -221,7 +221,7 @@ impl<B: PoolName> PoolThread<B> {
         ensures account { self.new.account ≡ self.old.account }
         ensures unchanged { OnErr result (self.new ≡ self.old) }
     {
-        let root = buffer.view.at.root;
+        let root = buffer.root();
         buffer.may(&self.member.account, 0)?;
         Ok(counting::look(&pool.shared, &mut self.member, root))
     }

@@ -69,7 +69,7 @@ impl<B: PoolName> PoolThread<B> {
         ensures unchanged { OnErr result (self.new ≡ self.old) }
     {
         let offset = self.may_access(buffer, start, bytes.len())?;
-        let root = buffer.view.at.root;
+        let root = buffer.root();
         let member = &mut self.member;
         if !access::try_set(&pool.shared, member, root, offset, bytes) {
             access::wait_to_set(rt, &pool.shared, member, root, offset, bytes);
@@ -101,7 +101,7 @@ impl<B: PoolName> PoolThread<B> {
         ensures unchanged { OnErr result ((self.new ≡ self.old) × (out.new ≡ out.old)) }
     {
         let offset = self.may_access(buffer, start, out.len())?;
-        let root = buffer.view.at.root;
+        let root = buffer.root();
         let member = &mut self.member;
         if !access::try_get(&pool.shared, member, root, offset, out) {
             access::wait_to_get(rt, &pool.shared, member, root, offset, out);
@@ -201,7 +201,7 @@ impl<B: PoolName> PoolThread<B> {
         ensures unchanged { OnErr result (self.new ≡ self.old) }
     {
         let offset = self.may_access(buffer, start, len as usize)?;
-        let root = buffer.view.at.root;
+        let root = buffer.root();
         Ok(access::with_bytes(rt, &pool.shared, &mut self.member, root, offset, len, f))
     }
 
@@ -222,7 +222,7 @@ impl<B: PoolName> PoolThread<B> {
             (access b.at.root Did.Touch)) }
         ensures unchanged { OnErr result (self.new ≡ self.old) }
     {
-        let root = buffer.view.at.root;
+        let root = buffer.root();
         buffer.may(&self.member.account, 1)?;
         access::touch(rt, &pool.shared, &mut self.member, root);
         Ok(())

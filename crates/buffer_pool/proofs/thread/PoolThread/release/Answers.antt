@@ -1,12 +1,12 @@
 use Rattle.std.proofs.Common.{◌≡◌, ◌<◌, ◌≤◌, None, refl, sym, ap, ◌∙◌, subst, rules}
 use Rattle.std.specs.Prelude.{IfSome, Option}
+use Rattle.pool_law.specs.declared.id.RootId.{RootId}
 use Rattle.seat_work.specs.Changes.{once_less}
 use Rattle.shared_pool.specs.declared.pool.SharedPool.{SharedPool}
 use Rattle.pool_member.specs.declared.account.Account.{Account}
 use Rattle.pool_member.specs.declared.member.Member.{Member}
 use Rattle.pool_member.specs.Counting.{counted}
 use Rattle.pool_member.specs.Threads.{Does, HasChanged, IsThread, Settles, moves_after, with_left}
-use Rattle.pool_member.specs.Windows.{Window}
 use Rattle.pool_member.proofs.Settling.{does_settled, none_left, same_account, settled_does, settles_none, still_turns}
 use Rattle.buffer_pool.proofs.thread.PoolThread.release.Goals as goal
 use Rattle.buffer_pool.proofs.thread.PoolThread.release.Goals.{then-not-is_nothing, else-not-is_nothing, in-Nothing, in_default}
@@ -32,7 +32,7 @@ release_once-last-requires-clause-settled g c =
 pub release_once-last-requires-clause-counts : goal.release_once-last-requires-clause-counts
 release_once-last-requires-clause-counts g c =
     let pool = c.pool.inside.shared in let old : Member = c.self.inside.member in
-    let root = c.buffer.inside.view.at.root in let here : 0 < counted old.account.counts root = search rules in
+    let root = c.root.result in let here : 0 < counted old.account.counts root = search rules in
     elim c.if-not-is_nothing.branch [
       | then-not-is_nothing w ↦
           rw w.self-inside-is (subst (λ (a : Account). 0 < counted a.counts root)
@@ -54,7 +54,7 @@ pub returns-clause-changed : goal.returns-clause-changed
 returns-clause-changed g c =
     let pool = c.pool.inside.shared in let old : Member = c.self.inside.member in
     let mid : Member = c.if-not-is_nothing.self-inside.member in let call = c.release_once-last in
-    let last = call.result.0 in let change = once_less c.buffer.inside.view.at.root last in
+    let last = call.result.0 in let change = once_less c.root.result last in
     let is : IsThread pool old =
     subst (λ (o : Option SharedPool). IfSome o (λ p. IsThread p old)) c.pool.invariant.named c.self.invariant in
     let settles : Settles pool old mid =
@@ -65,7 +65,7 @@ returns-clause-changed g c =
     let from : (new : Member) → Does pool 4 change None mid new
         → HasChanged 4 (once_less c.args.buffer.at.root last) None c.args.self.now new =
     λ new does.
-    subst (λ (w : Window). HasChanged 4 (once_less w.at.root last) None c.args.self.now new) c.buffer.view_is
+    subst (λ (r : RootId). HasChanged 4 (once_less r last) None c.args.self.now new) c.root.ensures
     (subst (λ (m : Member). HasChanged 4 change None m new) c.self.view_is
     (settled_does pool old mid new 4 change None settles does).changed) in
     elim c.match-left.branch [
