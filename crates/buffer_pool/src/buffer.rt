@@ -4,6 +4,7 @@ ghost use Rattle.std.specs.Prelude.{◌≡◌, ◌+◌};
 
 use crate::name::PoolName;
 use byte_view::View;
+use pool_law::RootId;
 use std::marker::{Model, PhantomData};
 
 /// A window on bytes of the pool, with a reader and a writer in it. It is one thread's, and stands
@@ -16,14 +17,30 @@ pub struct Buffer<B: PoolName> {
 }
 
 impl<B: PoolName> Model for Buffer<B> {
-    ghost use Rattle.pool_member.specs.Windows.{Window};
+    ghost use Rattle.std.specs.Prelude.{IfSome};
+    ghost use Rattle.pool_member.specs.Windows.{HasPlace, Window};
 
     ghost Value = { Window };
 
     ghost view = { λ b. record { at = b.view.at; thread = b.thread } };
+
+    ghost invariant = { λ b. IfSome B.pool (λ pool. HasPlace pool b.view.at.root) };
 }
 
 impl<B: PoolName> Buffer<B> {
+    // Its root, by its parts, so that they stay in registers.
+    #[inline(always)]
+    pub(crate) fn root(&self) -> RootId
+        ensures { result ≡ self.now.at.root }
+    {
+        let at = &self.view.at.root;
+        RootId {
+            place: at.place,
+            generation: at.generation,
+            capacity: at.capacity,
+        }
+    }
+
     /// How many bytes it has.
     pub fn len(&self) -> u32
         ensures { result ≡ self.now.at.len }

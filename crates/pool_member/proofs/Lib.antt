@@ -1,6 +1,7 @@
 mod CountLaws
 mod ToldLaws
 mod AloneLaws
+mod PlaceLaws
 pub mod Letters
 pub mod Pendings
 pub mod Alone
@@ -20,3 +21,4 @@ pub mod Opened
 pub mod Ended
 mod Skips
 pub mod Returns
+pub mod Beginnings

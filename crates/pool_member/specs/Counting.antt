@@ -1,8 +1,12 @@
 -- How often a thread counts each root, and what it knows of its capacity.
-use Rattle.std.specs.Prelude.{ℕ, ◌&&◌, Bool, false, max, if◌then◌else◌, List, Option, Some, None, slice_get}
+use Rattle.std.specs.Prelude.{◌≡◌, ℕ, ◌&&◌, Bool, false, max, if◌then◌else◌, List, Option, Some, None, IfSome, slice_get}
 use Rattle.pool_law.specs.declared.id.RootId.{RootId}
 use Rattle.pool_law.specs.Same.{same_root}
 use Rattle.pool_member.specs.declared.counts.Counted.{Counted}
+
+-- what is kept at each place is of a root of that place
+abbrev pub StandInPlace : List Counted → Type 0
+StandInPlace cs = (place : ℕ) → IfSome (slice_get cs place) (λ c. c.root.place ≡ place)
 
 -- the count of a root, of what is counted at its place
 abbrev pub if_counted : Option Counted → RootId → ℕ

@@ -17,3 +17,4 @@ pub mod Closing
 pub mod Watching
 pub mod Allotting
 pub mod Growing
+pub mod Beginnings

@@ -1,9 +1,9 @@
 //! How often a thread counts each root.
 
-ghost use Rattle.std.specs.Prelude.{◌≡◌, ◌+◌, ◌-◌, ◌<◌, ◌≤◌, ◌^◌, ◌⊎◌, false, max, if◌then◌else◌, length, IfOk, IsTrue};
+ghost use Rattle.std.specs.Prelude.{◌≡◌, ◌+◌, ◌-◌, ◌<◌, ◌≤◌, ◌^◌, ◌⊎◌, ◌&&◌, nat_le, nat_lt, false, max, if◌then◌else◌, length, IfOk, IsTrue};
 ghost use Rattle.pool_law.specs.declared.id.RootId.{RootId};
 ghost use Rattle.pool_law.specs.Same.{same_root};
-ghost use Rattle.pool_member.specs.Counting.{counted, is_alone, told};
+ghost use Rattle.pool_member.specs.Counting.{counted, is_alone, known, told};
 ghost use Rattle.seat_work.specs.Changes.{one_for};
 
 use pool_law::RootId;
@@ -29,10 +29,13 @@ pub struct OwnCounts {
 impl Model for OwnCounts {
     ghost use Rattle.std.specs.Prelude.{List};
     ghost use Rattle.pool_member.specs.declared.counts.Counted.{Counted};
+    ghost use Rattle.pool_member.specs.Counting.{StandInPlace};
 
     ghost Value = { List Counted };
 
     ghost view = { λ counts. counts.by_place.items };
+
+    ghost invariant = { λ counts. StandInPlace counts.by_place.items };
 }
 
 impl OwnCounts {
@@ -72,6 +75,39 @@ impl OwnCounts {
         } else {
             (0, 0)
         }
+    }
+
+    /// Whether the thread counts a root, and knows of so much of its capacity.
+    #[inline(always)]
+    pub fn reaches(&self, root: RootId, end: u32) -> bool
+        ensures { result
+            ≡ (nat_lt 0 (counted self.now root) && nat_le end (known self.now root)) }
+    {
+        (root.place as usize) < self.by_place.len() && self.reaches_at(root, end)
+    }
+
+    /// The same of a root whose place is known to be one of these.
+    #[inline(always)]
+    pub fn reaches_at(&self, root: RootId, end: u32) -> bool
+        requires place { root.place < length self.now }
+        ensures { result
+            ≡ (nat_lt 0 (counted self.now root) && nat_le end (known self.now root)) }
+    {
+        let at_place = &self.by_place[root.place as usize];
+        // What is kept there is of that place. One test after the other, as each mostly is met.
+        if at_place.root.generation != root.generation {
+            return false;
+        }
+        if at_place.root.capacity != root.capacity {
+            return false;
+        }
+        if at_place.count == 0 {
+            return false;
+        }
+        if end <= root.capacity {
+            return true;
+        }
+        end <= at_place.told
     }
 
     /// Counts a root once more. Of its place no other root is counted, and what was told of another

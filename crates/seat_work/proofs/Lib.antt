@@ -25,3 +25,4 @@ pub mod GrowReads
 pub mod Handles
 pub mod RegionNotes
 pub mod GrowthNotes
+pub mod Beginnings

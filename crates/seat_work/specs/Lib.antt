@@ -8,3 +8,4 @@ pub mod Readings
 pub mod Answers
 pub mod Names
 pub mod Regrowths
+pub mod Beginnings

@@ -24,9 +24,9 @@ use crate::pool::Pool;
 use crate::thread::PoolThread;
 use byte_view::View;
 use pool_law::RootId;
-use pool_member::work::allocation::allocate;
-use pool_member::work::counting;
+use pool_member::work::{allocation, counting, settling};
 use pool_member::{AccessNo, AllocNo};
+use seat_tries::Begun;
 use std::marker::PhantomData;
 use std::sync::Wait;
 
@@ -40,6 +40,7 @@ impl<B: PoolName> PoolThread<B> {
     /// once. A refusal leaves its counts as they were, and which of its next buffers are watched;
     /// for want of turns, and where the buffer is too large, nothing has changed. Nothing is left to
     /// put away of what calls that never wait began.
+    #[inline(always)]
     pub fn alloc<W: Wait>(
         &mut self,
         rt: &W,
@@ -76,7 +77,13 @@ impl<B: PoolName> PoolThread<B> {
         if self.member.account.turns < ALLOC_TURNS {
             return Err(AllocNo::Spent);
         }
-        match allocate(rt, &pool.shared, &mut self.member, size, class) {
+        // It waits only where the first steps stopped.
+        let shared = &pool.shared;
+        let born = match allocation::begin(shared, &mut self.member, size, class) {
+            Ok(root) => Ok(root),
+            Err(stopped) => allocation::go_on(rt, shared, &mut self.member, stopped, size, class),
+        };
+        match born {
             Ok(root) => {
                 // LLVM keeps a root in registers only where it is made anew here.
                 let RootId {
@@ -102,6 +109,7 @@ impl<B: PoolName> PoolThread<B> {
     /// Gives a count back. True exactly where it was the last one of all threads and parcels: the
     /// memory went back to the pool then, and nothing is left to put away. A refusal changes nothing,
     /// and hands the buffer back.
+    #[inline(always)]
     pub fn release<W: Wait>(
         &mut self,
         rt: &W,
@@ -117,12 +125,29 @@ impl<B: PoolName> PoolThread<B> {
         ensures settled { OnOk result (IsSettled self.new) }
         ensures back { IfErr result (λ back. (back.buffer ≡ buffer) × (self.new ≡ self.old)) }
     {
-        let root = buffer.view.at.root;
-        if let Err(why) = buffer.may(&self.member.account, RELEASE_TURNS) {
+        let root = buffer.root();
+        if !self.has(pool, &buffer) {
+            let why = AccessNo::NotHere;
+            return Err(Back { why, buffer });
+        }
+        if self.member.account.turns < RELEASE_TURNS {
+            let why = AccessNo::Spent;
             return Err(Back { why, buffer });
         }
         buffer.leave();
-        Ok(counting::release(rt, &pool.shared, &mut self.member, root))
+        let member = &mut self.member;
+        // It waits only where there is something to put away.
+        if !settling::is_nothing(&member.pending) {
+            settling::settle(rt, &pool.shared, member);
+        }
+        let (last, left) = counting::release_once(&pool.shared, member, root);
+        match left {
+            Begun::Nothing => Ok(last),
+            other => {
+                settling::settle_left(rt, &pool.shared, member, other);
+                Ok(last)
+            }
+        }
     }
 
     /// Another buffer on the same bytes, with a count of its own, and its reader and its writer
@@ -201,7 +226,7 @@ impl<B: PoolName> PoolThread<B> {
         ensures account { self.new.account ≡ self.old.account }
         ensures unchanged { OnErr result (self.new ≡ self.old) }
     {
-        let root = buffer.view.at.root;
+        let root = buffer.root();
         buffer.may(&self.member.account, 0)?;
         Ok(counting::look(&pool.shared, &mut self.member, root))
     }

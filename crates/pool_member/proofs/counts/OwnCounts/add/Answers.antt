@@ -11,6 +11,7 @@ use Rattle.pool_member.specs.contracts.counts.OwnCounts.{the_view}
 use Rattle.pool_member.proofs.CountLaws.{added_again, added_first}
 use Rattle.pool_member.proofs.AloneLaws.{alone_kept, alone_less, alone_same}
 use Rattle.pool_member.proofs.ToldLaws.{least_by, same_least, told_kept, told_less, told_same}
+use Rattle.pool_member.proofs.PlaceLaws.{stand_set, stands_here}
 use Rattle.pool_member.proofs.counts.OwnCounts.add.Goals as goal
 use Rattle.pool_member.proofs.counts.OwnCounts.add.Goals.{then-eq, else-eq}
 
@@ -119,4 +120,20 @@ returns-clause-owns c =
           (alone_kept cs root old at (record { root = root; count = 1; told = 0; alone = false }) differs alone other
           (subst (λ xs. 0 < counted xs other) (sym c.self.view_is) some)
           (subst (λ xs. IsTrue (is_alone xs other)) (sym c.self.view_is) is))
+    ]
+
+pub invariant_of-self : goal.invariant_of-self
+invariant_of-self c =
+    let cs = c.self.inside.by_place.items in let root = c.args.root in let old : Counted =
+    c.index_mut-at_place.result.now in
+    let lt : root.place < length cs = subst (λ xs. root.place < length xs) (sym c.self.view_is) c.requires.place in
+    let at : slice_get cs root.place ≡ Some old = slice_get_read cs (length cs) root.place old refl lt
+    c.index_mut-at_place.ensures.value in
+    elim c.if-eq.branch [
+      | then-eq w ↦
+          rw w.self-inside-is (stand_set cs root.place (record old { count = old.count + 1 }) lt c.self.invariant
+          (stands_here cs root.place old c.self.invariant at))
+      | else-eq w ↦
+          rw w.self-inside-is (stand_set cs root.place (record { root = root; count = 1; told = 0; alone = false }) lt
+          c.self.invariant refl)
     ]

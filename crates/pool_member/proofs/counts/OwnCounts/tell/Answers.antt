@@ -7,6 +7,7 @@ use Rattle.pool_member.specs.declared.counts.Counted.{Counted}
 use Rattle.pool_member.proofs.CountLaws.{counted_same, counted_within}
 use Rattle.pool_member.proofs.AloneLaws.{alone_same}
 use Rattle.pool_member.proofs.ToldLaws.{counted_here, told_more}
+use Rattle.pool_member.proofs.PlaceLaws.{stand_set, stands_here}
 use Rattle.pool_member.proofs.counts.OwnCounts.tell.Goals as goal
 
 pub returns-clause-counts : goal.returns-clause-counts
@@ -43,3 +44,14 @@ returns-clause-alone c =
     λ other.
     alone_same cs root old at (record old { told = c.max-at_place.result }) refl refl other
     ∙ ap (λ xs. is_alone xs other) c.self.view_is
+
+pub invariant_of-self : goal.invariant_of-self
+invariant_of-self c =
+    let cs = c.self.inside.by_place.items in let root = c.args.root in
+    let old : Counted = c.index_mut-at_place.result.now in
+    let lt : 0 < counted cs root = subst (λ xs. 0 < counted xs root) (sym c.self.view_is) c.requires in
+    let within = counted_within cs root lt in
+    let at : slice_get cs root.place ≡ Some old = slice_get_read cs (length cs) root.place old refl within
+    c.index_mut-at_place.ensures.value in
+    stand_set cs root.place (record old { told = c.max-at_place.result }) within c.self.invariant
+    (stands_here cs root.place old c.self.invariant at)
