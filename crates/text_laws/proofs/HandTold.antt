@@ -1,0 +1,151 @@
+-- What a lane has in hand, as the lines before tell it.
+use Rattle.std.proofs.Common.{inl, inr, ◌≡◌, ℕ, ◌+◌, ◌-◌, ◌<◌, List, ◌∷◌, ◌++◌, length, false, Option, Some, None, refl, sym, ap, arith, ◌∙◌}
+use Rattle.std.specs.Prelude.{slice_get, unwrap_or}
+use Rattle.pool_law.specs.declared.id.RegionId.{RegionId}
+use Rattle.pool_law.specs.declared.note.Did.{Did}
+use Rattle.pool_law.specs.declared.note.Did.TheVariants.{End, Give, Grow, Hit, Kept, Shed, Take}
+use Rattle.pool_law.specs.declared.note.Note.{Note}
+use Rattle.pool_law.specs.declared.note.Note.TheVariants.{At, Ref, Busy}
+use Rattle.pool_law.specs.declared.note.Object.{Object}
+use Rattle.pool_law.specs.declared.run.Shape.{Shape}
+use Rattle.pool_law.specs.Lives.{Happening, Happens, Leaves, RegionsLive, StandsAt, present_at}
+use Rattle.pool_law.specs.Logs.{Logs, entry_of, has_history, of_lane}
+use Rattle.pool_law.specs.Roots.{Present}
+use Rattle.pool_law.proofs.ListLemmas.{get-map}
+use Rattle.pool_law.proofs.LogLemmas.{entry-note}
+use Rattle.run_laws.specs.Hands.{Source, Got, Ended, Dropped, did_of}
+use Rattle.run_laws.proofs.Doings.{happens, left-present}
+use Rattle.run_laws.proofs.EventLaw.{Noted, noted}
+use Rattle.run_laws.proofs.HandNotes.{Held, held-to}
+use Rattle.run_laws.proofs.HandSteps.{Empties, EndsUse, Fills, IsOut, moving}
+use Rattle.run_laws.proofs.LogEntries.{LanesAct}
+use Rattle.run_laws.proofs.PagedHistories.{HistoriesPaged}
+use Rattle.run_laws.proofs.PlaceMoves.{present-placed}
+use Rattle.run_text.specs.Lines.{Line, brought, brought_by, in_hand, last, left, place_of, region_with, said, taking_key, told_from}
+use Rattle.text_laws.proofs.BegunTold.{left-told}
+use Rattle.text_laws.proofs.LastSays.{last-is}
+use Rattle.text_laws.proofs.TakingsTold.{region-told}
+use Rattle.text_laws.proofs.TextPlaces.{ahead, front-below, front-own, here, own-front}
+
+-- a note that moves no region brings none
+still-brings : (all : List Line) (n : Note) → moving (did_of n) ≡ false → brought all n ≡ None
+still-brings all (At o k (Take c x)) still = absurd (cc still)
+still-brings all (At o k (Hit x)) still = absurd (cc still)
+still-brings all (At o k (Shed x)) still = absurd (cc still)
+still-brings all (At o k (End root)) still = absurd (cc still)
+still-brings all (At o k (Grow c x)) still = absurd (cc still)
+still-brings all (At o k _) still = refl
+still-brings all (Ref root d) still = refl
+still-brings all (Busy held) still = refl
+
+-- ---- What a lane brought last before a line.
+
+module _ (logs : Logs) (front back : List Line) (line : Line) (is : told_from 0 logs ≡ front ++ line ∷ back) where
+  -- a note of its lane brought this, and none behind that brought anything
+  pub hand-is : (i : ℕ) (n : Note) (y : RegionId) → StandsAt logs line.0 i n → i < (here logs front back line is).at
+      → brought (told_from 0 logs) n ≡ Some (Some y)
+      → ((m : ℕ) (x : Note) → i < m → m < (here logs front back line is).at → StandsAt logs line.0 m x
+      → brought (told_from 0 logs) x ≡ None)
+      → in_hand (told_from 0 logs) front ≡ Some y
+  hand-is i n y stands low brings none =
+      ap (λ (o : Option (Option RegionId)). unwrap_or o None)
+      (last-is (λ l. brought (told_from 0 logs) l.1) front (ahead line.0 logs + i) (line.0, n) (Some y)
+      (own-front logs front back line is i n stands low) brings behind)
+    where
+      behind : (j : ℕ) (l : Line) → ahead line.0 logs + i < j → slice_get front j ≡ Some l
+          → brought (told_from 0 logs) l.1 ≡ None
+      behind j l later there =
+          let before : j < length front = front-below logs front back line is j l there in
+          let place : length front ≡ ahead line.0 logs + (here logs front back line is).at =
+          (here logs front back line is).place in
+          none (j - ahead line.0 logs) l.1 (omega (arith, later)) (omega (arith, later, before, place))
+          (front-own logs front back line is j l there (omega (arith, later)))
+
+-- ---- What came into the hand is what the lines bring.
+
+module _ (shape : Shape) (logs : Logs) (holds : HistoriesPaged shape logs) (acts : LanesAct logs)
+    (lives : RegionsLive logs) where
+  -- a root that ends or grows leaves the region that its place leaves
+  ends-bring : (lane at k : ℕ) (o : Object) (d : Did) (y : RegionId) → StandsAt logs lane at (At o k d) → EndsUse d
+      → (entry_of logs (At o k d)).region ≡ Some y → left (told_from 0 logs) (place_of o) k ≡ Some y
+  ends-bring lane at k o d y s ends out =
+      let l = left-present logs o k d y ends out in by l.0 l.1 l.2
+    where
+      by : (p : Present) → present_at logs o k ≡ Some p → p.region ≡ y
+          → left (told_from 0 logs) (place_of o) k ≡ Some y
+      by p there region =
+          let object : o ≡ Object.Root p.root.place =
+          (present-placed shape logs holds acts o k p there).object in
+          let i : Noted shape logs holds acts
+          (record { object = o; did = d; lane = lane; at = at; number = k }) =
+          noted shape logs holds acts (record { object = o; did = d; lane = lane; at = at; number = k }) s
+          (ap has_history object) in
+          let t : Happening =
+          record {
+            event = record { object = o; did = d; lane = lane; at = at; number = k };
+            move = Leaves p.root p.region;
+          } in
+          let happened : Happens logs t =
+          happens logs (record { object = o; did = d; lane = lane; at = at; number = k }) (Leaves p.root p.region) s
+          (ends, (p, there, refl, refl)) in
+          let told : region_with (told_from 0 logs) (taking_key p.region) p.region.uses ≡ Some p.region =
+          region-told shape logs holds acts lives t happened in
+          ap (λ x. left (told_from 0 logs) (place_of x) k) object
+          ∙ left-told shape logs holds acts p.root.place k p (omega (arith, i.number))
+          (ap (λ x. present_at logs x k) (sym object) ∙ there) told
+          ∙ ap (λ r. Some r) region
+
+  -- so each note that fills the hand brings what fills it
+  fills-bring : (lane at k : ℕ) (o : Object) (d : Did) (from : Source) (y : RegionId)
+      → StandsAt logs lane at (At o k d) → Fills from y (entry_of logs (At o k d)).region d
+      → brought (told_from 0 logs) (At o k d) ≡ Some (Some y)
+  fills-bring lane at k o d Got y s (inl is) = ap (λ x. brought (told_from 0 logs) (At o k x)) is
+  fills-bring lane at k o d Got y s (inr is) = ap (λ x. brought (told_from 0 logs) (At o k x)) is.1
+  fills-bring lane at k o d Dropped y s is = ap (λ x. brought (told_from 0 logs) (At o k x)) is
+  fills-bring lane at k o d Ended y s (inl end, out) =
+      ap (λ x. brought (told_from 0 logs) (At o k x)) end.1
+      ∙ ap (λ r. Some r) (ends-bring lane at k o d y s (inl end) out)
+  fills-bring lane at k o d Ended y s (inr grow, out) =
+      ap (λ x. brought (told_from 0 logs) (At o k x)) grow.2
+      ∙ ap (λ r. Some r) (ends-bring lane at k o d y s (inr grow) out)
+
+  module _ (front back : List Line) (line : Line) (is : told_from 0 logs ≡ front ++ line ∷ back) where
+    -- a region that goes out of the hand is the one that the lines before brought last
+    pub out-told : (o : Object) (k : ℕ) (d : Did) (x : RegionId) → line.1 ≡ At o k d → IsOut d
+        → ((from : Source) (y : RegionId) → Empties from y d → x ≡ y)
+        → in_hand (told_from 0 logs) front ≡ Some x
+    out-told o k d x note_is out own =
+        let there : StandsAt logs line.0 (here logs front back line is).at (At o k d) =
+        (here logs front back line is).stands ∙ ap (λ n. Some n) note_is in
+        let h = held-to logs acts line.0 (here logs front back line is).at k o d there out in
+        let same : x ≡ h.2 = own h.1 h.2 h.4 in
+        by h.0 h.1 h.2 h.3 ∙ ap (λ r. Some r) (sym same)
+      where
+        by : (i : ℕ) (from : Source) (y : RegionId)
+            → Held logs line.0 i (here logs front back line is).at from y
+            → in_hand (told_from 0 logs) front ≡ Some y
+        by i from y h =
+            hand-is logs front back line is i (At h.into_object h.into_number h.into) y h.into_is h.order
+            (fills-bring line.0 i h.into_number h.into_object h.into from y h.into_is h.fills)
+            (λ m n low high stands. still-brings (told_from 0 logs) n
+            (ap (λ e. moving (did_of e)) (sym (entry-note logs n))
+            ∙ h.pair.still m (entry_of logs n) low high
+            (get-map (entry_of logs) (of_lane logs line.0) m n stands)))
+
+    pub kept-told : (o : Object) (k : ℕ) (x : RegionId) → line.1 ≡ At o k (Kept x)
+        → in_hand (told_from 0 logs) front ≡ Some x
+    kept-told o k x note_is = out-told o k (Kept x) x note_is tt own
+      where
+        own : (from : Source) (y : RegionId) → Empties from y (Kept x) → x ≡ y
+        own Got y e = e
+        own Ended y e = e
+        own Dropped y e = absurd e
+
+    pub given-told : (o : Object) (k : ℕ) (x : RegionId) → line.1 ≡ At o k (Give x)
+        → in_hand (told_from 0 logs) front ≡ Some x
+    given-told o k x note_is = out-told o k (Give x) x note_is tt own
+      where
+        own : (from : Source) (y : RegionId) → Empties from y (Give x) → x ≡ y
+        own Got y e = e
+        own Ended y e = e
+        own Dropped y e = e
