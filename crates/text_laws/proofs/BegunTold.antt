@@ -34,7 +34,7 @@ use Rattle.text_laws.proofs.TextPlaces.{Placed, ahead, placed-at, there-at}
 
 -- ---- What a note begins.
 
-abbrev begun_at : ℕ → ℕ → RegionId → Begun
+abbrev pub begun_at : ℕ → ℕ → RegionId → Begun
 begun_at place number r = ((place, number), r)
 
 begun-did : (d : Did) (r : RegionId) → begun_by (said d) ≡ Some r → Uses r d
@@ -42,7 +42,7 @@ begun-did (Birth root x) r e = let same : x ≡ r = cc e in inl (root, ap (Birth
 begun-did (Grow c x) r e = let same : x ≡ r = cc e in inr (c, ap (Grow c) same)
 begun-did _ r e = absurd (cc e)
 
-uses-begun : (d : Did) (r : RegionId) → Uses r d → begun_by (said d) ≡ Some r
+pub uses-begun : (d : Did) (r : RegionId) → Uses r d → begun_by (said d) ≡ Some r
 uses-begun d r (inl u) = ap (λ x. begun_by (said x)) u.1
 uses-begun d r (inr u) = ap (λ x. begun_by (said x)) u.1
 
@@ -63,7 +63,7 @@ uses-one d x y (inr u) (inl v) = let e : Grow u.0 x ≡ Birth v.0 y = sym u.1 �
 uses-one d x y (inr u) (inr v) = let e : Grow u.0 x ≡ Grow v.0 y = sym u.1 ∙ v.1 in cc e
 
 -- a growth leaves a region
-ends-fill : (c : ℕ) (r y : RegionId) (t : Option RegionId) (from : Source) → Fills from y t (Grow c r) → t ≡ Some y
+pub ends-fill : (c : ℕ) (r y : RegionId) (t : Option RegionId) (from : Source) → Fills from y t (Grow c r) → t ≡ Some y
 ends-fill c r y t Got (inl e) = absurd (cc e)
 ends-fill c r y t Got (inr e) = let f : Grow c r ≡ Take e.0 y = e.1 in absurd (cc f)
 ends-fill c r y t Ended f = f.1

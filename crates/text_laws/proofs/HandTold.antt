@@ -1,9 +1,10 @@
 -- What a lane has in hand, as the lines before tell it.
-use Rattle.std.proofs.Common.{inl, inr, ◌≡◌, ℕ, ◌+◌, ◌-◌, ◌<◌, List, ◌∷◌, ◌++◌, length, false, Option, Some, None, refl, sym, ap, arith, ◌∙◌}
+use Rattle.std.proofs.Common.{⊎_elim, inl, inr, ◌≡◌, ℕ, suc, ◌+◌, ◌-◌, ◌<◌, ◌≤◌, List, ◌∷◌, ◌++◌, length, false, Option, Some, None, refl, sym, ap, subst, arith, ◌∙◌}
 use Rattle.std.specs.Prelude.{slice_get, unwrap_or}
 use Rattle.pool_law.specs.declared.id.RegionId.{RegionId}
+use Rattle.pool_law.specs.declared.note.CacheNo.{CacheNo}
 use Rattle.pool_law.specs.declared.note.Did.{Did}
-use Rattle.pool_law.specs.declared.note.Did.TheVariants.{End, Give, Grow, Hit, Kept, Shed, Take}
+use Rattle.pool_law.specs.declared.note.Did.TheVariants.{Back, End, Give, Grow, Hit, Kept, Shed, Take}
 use Rattle.pool_law.specs.declared.note.Note.{Note}
 use Rattle.pool_law.specs.declared.note.Note.TheVariants.{At, Ref, Busy}
 use Rattle.pool_law.specs.declared.note.Object.{Object}
@@ -13,9 +14,10 @@ use Rattle.pool_law.specs.Logs.{Logs, entry_of, has_history, of_lane}
 use Rattle.pool_law.specs.Roots.{Present}
 use Rattle.pool_law.proofs.ListLemmas.{get-map}
 use Rattle.pool_law.proofs.LogLemmas.{entry-note}
+use Rattle.arena_laws.proofs.SlotLemmas.{three}
 use Rattle.run_laws.specs.Hands.{Source, Got, Ended, Dropped, did_of}
 use Rattle.run_laws.proofs.Doings.{happens, left-present}
-use Rattle.run_laws.proofs.EventLaw.{Noted, noted}
+use Rattle.run_laws.proofs.EventLaw.{Noted, noted, one-note}
 use Rattle.run_laws.proofs.HandNotes.{Held, held-to}
 use Rattle.run_laws.proofs.HandSteps.{Empties, EndsUse, Fills, IsOut, moving}
 use Rattle.run_laws.proofs.LogEntries.{LanesAct}
@@ -37,6 +39,21 @@ still-brings all (At o k (Grow c x)) still = absurd (cc still)
 still-brings all (At o k _) still = refl
 still-brings all (Ref root d) still = refl
 still-brings all (Busy held) still = refl
+
+-- what is given was in the hand, whatever brought it
+give-own : (x : RegionId) (from : Source) (y : RegionId) → Empties from y (Give x) → x ≡ y
+give-own x Got y e = e
+give-own x Ended y e = e
+give-own x Dropped y e = e
+
+-- nothing comes into the hand from a cache that sends a region back
+never-back : (from : Source) (y : RegionId) (t : Option RegionId) (x : RegionId) (why : CacheNo)
+    → Fills from y t (Back x why) → ⊥
+never-back Got y t x why (inl e) = cc e
+never-back Got y t x why (inr e) = let f : Back x why ≡ Take e.0 y = e.1 in cc f
+never-back Ended y t x why (inl e, out) = let f : Back x why ≡ End e.0 = e.1 in cc f
+never-back Ended y t x why (inr e, out) = let f : Back x why ≡ Grow e.0 e.1 = e.2 in cc f
+never-back Dropped y t x why e = cc e
 
 -- ---- What a lane brought last before a line.
 
@@ -110,27 +127,30 @@ module _ (shape : Shape) (logs : Logs) (holds : HistoriesPaged shape logs) (acts
       ∙ ap (λ r. Some r) (ends-bring lane at k o d y s (inr grow) out)
 
   module _ (front back : List Line) (line : Line) (is : told_from 0 logs ≡ front ++ line ∷ back) where
-    -- a region that goes out of the hand is the one that the lines before brought last
-    pub out-told : (o : Object) (k : ℕ) (d : Did) (x : RegionId) → line.1 ≡ At o k d → IsOut d
+    -- what came into the hand before the line, and goes out of it there or later, the lines before brought last
+    held-told : (i to : ℕ) (from : Source) (y : RegionId) → Held logs line.0 i to from y
+        → i < (here logs front back line is).at → (here logs front back line is).at ≤ to
+        → in_hand (told_from 0 logs) front ≡ Some y
+    held-told i to from y h low high =
+        hand-is logs front back line is i (At h.into_object h.into_number h.into) y h.into_is low
+        (fills-bring line.0 i h.into_number h.into_object h.into from y h.into_is h.fills)
+        (λ m n above below stands. still-brings (told_from 0 logs) n
+        (ap (λ e. moving (did_of e)) (sym (entry-note logs n))
+        ∙ h.pair.still m (entry_of logs n) above (omega (arith, below, high))
+        (get-map (entry_of logs) (of_lane logs line.0) m n stands)))
+
+    there-as : (n : Note) → line.1 ≡ n → StandsAt logs line.0 (here logs front back line is).at n
+    there-as n note_is = (here logs front back line is).stands ∙ ap (λ m. Some m) note_is
+
+    -- so a region that is kept or given
+    out-told : (o : Object) (k : ℕ) (d : Did) (x : RegionId) → line.1 ≡ At o k d → IsOut d
         → ((from : Source) (y : RegionId) → Empties from y d → x ≡ y)
         → in_hand (told_from 0 logs) front ≡ Some x
     out-told o k d x note_is out own =
-        let there : StandsAt logs line.0 (here logs front back line is).at (At o k d) =
-        (here logs front back line is).stands ∙ ap (λ n. Some n) note_is in
-        let h = held-to logs acts line.0 (here logs front back line is).at k o d there out in
+        let h = held-to logs acts line.0 (here logs front back line is).at k o d (there-as (At o k d) note_is) out in
         let same : x ≡ h.2 = own h.1 h.2 h.4 in
-        by h.0 h.1 h.2 h.3 ∙ ap (λ r. Some r) (sym same)
-      where
-        by : (i : ℕ) (from : Source) (y : RegionId)
-            → Held logs line.0 i (here logs front back line is).at from y
-            → in_hand (told_from 0 logs) front ≡ Some y
-        by i from y h =
-            hand-is logs front back line is i (At h.into_object h.into_number h.into) y h.into_is h.order
-            (fills-bring line.0 i h.into_number h.into_object h.into from y h.into_is h.fills)
-            (λ m n low high stands. still-brings (told_from 0 logs) n
-            (ap (λ e. moving (did_of e)) (sym (entry-note logs n))
-            ∙ h.pair.still m (entry_of logs n) low high
-            (get-map (entry_of logs) (of_lane logs line.0) m n stands)))
+        held-told h.0 (here logs front back line is).at h.1 h.2 h.3 h.3.order (omega arith)
+        ∙ ap (λ r. Some r) (sym same)
 
     pub kept-told : (o : Object) (k : ℕ) (x : RegionId) → line.1 ≡ At o k (Kept x)
         → in_hand (told_from 0 logs) front ≡ Some x
@@ -143,9 +163,30 @@ module _ (shape : Shape) (logs : Logs) (holds : HistoriesPaged shape logs) (acts
 
     pub given-told : (o : Object) (k : ℕ) (x : RegionId) → line.1 ≡ At o k (Give x)
         → in_hand (told_from 0 logs) front ≡ Some x
-    given-told o k x note_is = out-told o k (Give x) x note_is tt own
+    given-told o k x note_is = out-told o k (Give x) x note_is tt (give-own x)
+
+    -- and one that a cache sends back, which the next note gives
+    pub sent-told : (o : Object) (k : ℕ) (x : RegionId) (why : CacheNo) → line.1 ≡ At o k (Back x why)
+        → (p : Object) × (m : ℕ) × StandsAt logs line.0 (suc (here logs front back line is).at) (At p m (Give x))
+        → in_hand (told_from 0 logs) front ≡ Some x
+    sent-told o k x why note_is given =
+        let h = held-to logs acts line.0 (suc (here logs front back line is).at) given.1 given.0 (Give x) given.2 tt in
+        let same : x ≡ h.2 = give-own x h.1 h.2 h.4 in
+        held-told h.0 (suc (here logs front back line is).at) h.1 h.2 h.3 (before h.0 h.1 h.2 h.3) (omega arith)
+        ∙ ap (λ r. Some r) (sym same)
       where
-        own : (from : Source) (y : RegionId) → Empties from y (Give x) → x ≡ y
-        own Got y e = e
-        own Ended y e = e
-        own Dropped y e = e
+        before : (i : ℕ) (from : Source) (y : RegionId)
+            → Held logs line.0 i (suc (here logs front back line is).at) from y
+            → i < (here logs front back line is).at
+        before i from y h =
+            ⊎_elim (λ low. low)
+            (λ rest. ⊎_elim
+            (λ equal.
+            let note : At h.into_object h.into_number h.into ≡ At o k (Back x why) =
+            one-note logs line.0 i (At h.into_object h.into_number h.into) (At o k (Back x why)) h.into_is
+            (ap (slice_get (of_lane logs line.0)) equal ∙ there-as (At o k (Back x why)) note_is) in
+            let did : h.into ≡ Back x why = cc note in
+            absurd (never-back from y (entry_of logs (At h.into_object h.into_number h.into)).region x why
+            (subst (Fills from y (entry_of logs (At h.into_object h.into_number h.into)).region) did h.fills)))
+            (λ high. absurd (omega (arith, high, h.order))) rest)
+            (three i (here logs front back line is).at)

@@ -137,19 +137,42 @@ module _ (shape : Shape) (logs : Logs) (holds : HistoriesPaged shape logs) (acts
           one-taking (record { object = n.0; did = Take n.2 y; lane = l.0; at = p.at; number = n.1 }) e n.2 c y r
           (p.stands ∙ ap (λ m. Some m) n.3) s refl is k.1
 
+  -- the Take of a region to which anything happens
+  pub record TakeOf (r : RegionId) : Type 0 where
+    pub event : Event
+    pub stands : Stands logs event
+    pub is : event.did ≡ Take r.class (with_uses 0 r)
+
+  pub take-of : RegionsLive logs → (t : Happening) → Happens logs t → TakeOf (region_of t.move)
+  take-of lives t h =
+      let life : Life logs (with_uses 0 (region_of t.move)) = lives t h in
+      let first : Happens logs life.take = first-happens logs life.take life.later life.order in
+      record {
+        event = life.take.event;
+        stands = first.stands;
+        is = subst (λ m. Does logs m life.take.event) life.taken (told logs life.take first);
+      }
+
   -- so each region to which anything happens is told by its Take, with its uses
   pub region-told : RegionsLive logs → (t : Happening) → Happens logs t
       → region_with (told_from 0 logs) (taking_key (region_of t.move)) (region_of t.move).uses
       ≡ Some (region_of t.move)
   region-told lives t h =
-      let life : Life logs (with_uses 0 (region_of t.move)) = lives t h in
-      let first : Happens logs life.take = first-happens logs life.take life.later life.order in
-      let is : life.take.event.did ≡ Take (region_of t.move).class (with_uses 0 (region_of t.move)) =
-      subst (λ m. Does logs m life.take.event) life.taken (told logs life.take first) in
+      let take : TakeOf (region_of t.move) = take-of lives t h in
       let bare : last_taken (told_from 0 logs) (taking_key (region_of t.move))
       ≡ Some (with_uses 0 (region_of t.move)) =
-      taken-told life.take.event (region_of t.move).class (with_uses 0 (region_of t.move)) first.stands is in
+      taken-told take.event (region_of t.move).class (with_uses 0 (region_of t.move)) take.stands take.is in
       ap (option_map (with_uses (region_of t.move).uses)) bare
+
+  -- and two of one arena and number are of one taking
+  pub one-taken : RegionsLive logs → (t u : Happening) → Happens logs t → Happens logs u
+      → taking_key (region_of t.move) ≡ taking_key (region_of u.move)
+      → with_uses 0 (region_of t.move) ≡ with_uses 0 (region_of u.move)
+  one-taken lives t u h g key =
+      let a : TakeOf (region_of t.move) = take-of lives t h in
+      let b : TakeOf (region_of u.move) = take-of lives u g in
+      one-taking a.event b.event (region_of t.move).class (region_of u.move).class (with_uses 0 (region_of t.move))
+      (with_uses 0 (region_of u.move)) a.stands b.stands a.is b.is key
 
   -- a region that is taken is of the lane that takes it, of the arena that is the lane's, and of its class
   pub record TakenBy (lane c : ℕ) (o : Object) (r : RegionId) : Type 0 where
