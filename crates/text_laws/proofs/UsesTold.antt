@@ -122,7 +122,8 @@ module _ (shape : Shape) (logs : Logs) (holds : HistoriesPaged shape logs) (acts
       (λ same. absurd (no_use u.root b.1 (ap (λ (z : Happening). z.move) (sym same))))
       (λ rest. ⊎_elim (λ (a : Ahead logs (as_use j l b u) t). inl a.least)
       (λ (a : Ahead logs t (as_use j l b u)). inr (before t (as_use j l b u) h u.happened a.order)) rest)
-      (compare logs Got (with_uses 0 r) life.take life.later (as_use j l b u) t life.lives life.order (at_use j l b u) at_t)
+      (compare logs Got (with_uses 0 r) life.take life.later (as_use j l b u) t life.lives life.order
+      (at_use j l b u) at_t)
 
   -- each use comes before a shed
   pub use-shed : (x : RegionId) → t.move ≡ Sheds x → (j : ℕ) (l : Line) (b : Begun) (u : UseLine j l b)
@@ -133,8 +134,8 @@ module _ (shape : Shape) (logs : Logs) (holds : HistoriesPaged shape logs) (acts
         arith,
         high,
         before (as_use j l b u) t u.happened h
-            (shed-last logs Got (with_uses 0 r) life.take life.later t (as_use j l b u) x u.root b.1 life.lives life.order
-            at_t (at_use j l b u) sheds refl),
+            (shed-last logs Got (with_uses 0 r) life.take life.later t (as_use j l b u) x u.root b.1 life.lives
+            life.order at_t (at_use j l b u) sheds refl),
       )))
       (use-or j l b u)
 
