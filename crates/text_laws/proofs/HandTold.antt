@@ -23,7 +23,7 @@ use Rattle.run_laws.proofs.HandSteps.{Empties, EndsUse, Fills, IsOut, moving}
 use Rattle.run_laws.proofs.LogEntries.{LanesAct}
 use Rattle.run_laws.proofs.PagedHistories.{HistoriesPaged}
 use Rattle.run_laws.proofs.PlaceMoves.{present-placed}
-use Rattle.run_text.specs.Lines.{Line, brought, brought_by, in_hand, last, left, place_of, region_with, said, taking_key, told_from}
+use Rattle.run_text.specs.Lines.{Line, brought, in_hand, left, place_of, region_with, taking_key, told_from}
 use Rattle.text_laws.proofs.BegunTold.{left-told}
 use Rattle.text_laws.proofs.LastSays.{last-is}
 use Rattle.text_laws.proofs.TakingsTold.{region-told}

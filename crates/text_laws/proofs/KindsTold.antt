@@ -1,6 +1,5 @@
 -- What was done is done to an object of its kind.
-use Rattle.std.proofs.Common.{◌≡◌, ℕ, List, true, Option, Some, None, take, refl}
-use Rattle.std.specs.Prelude.{slice_get}
+use Rattle.std.proofs.Common.{◌≡◌, ℕ, List, true, Option, Some, None, refl}
 use Rattle.size_classes.specs.Sizes.{Geometry}
 use Rattle.pool_law.specs.declared.note.Did.{Did}
 use Rattle.pool_law.specs.declared.note.Did.TheVariants.{Take, Full, Give, Hit, Miss, Kept, Back, Trim, Close, Shed, Handle, NoHandle, Home, Post, Fetch, Birth, Set, Get, Touch, Room, Extend, Grow, End}
@@ -9,7 +8,7 @@ use Rattle.pool_law.specs.declared.note.Object.{Object}
 use Rattle.pool_law.specs.declared.run.Shape.{Shape}
 use Rattle.pool_law.specs.Arenas.{Arena, arena_step, new_arena}
 use Rattle.pool_law.specs.Caches.{Cache, bin_step, lane_cache_step, new_bin, new_cache}
-use Rattle.pool_law.specs.Histories.{after, arena_after, bin_after, cache_after, place_after}
+use Rattle.pool_law.specs.Histories.{arena_after, bin_after, cache_after, place_after}
 use Rattle.pool_law.specs.Limits.{geometry_of}
 use Rattle.pool_law.specs.Lives.{StandsAt}
 use Rattle.pool_law.specs.Logs.{Logs, dids, history_of, may_stand, note_stands, of_lane}

@@ -1,8 +1,7 @@
 -- What the last line says that says anything.
 use Rattle.std.proofs.Common.{⊎_elim, inl, inr, ◌≡◌, ℕ, zero, suc, ◌<◌, Bool, true, false, List, [], ◌∷◌, Option, Some, None, refl, sym, ap, arith, ◌∙◌, eqb-true, eq-eqb}
-use Rattle.std.specs.Prelude.{◌⊎◌, ◌&&◌, nat_eq, if◌then◌else◌, slice_get}
+use Rattle.std.specs.Prelude.{◌⊎◌, nat_eq, if◌then◌else◌, slice_get}
 use Rattle.std.specs.Option.{option_or}
-use Rattle.std.proofs.lemmas.Option.{same_Some}
 use Rattle.pool_law.proofs.SameLemmas.{and-first, and-second}
 use Rattle.pool_law.proofs.PatternLemmas.{both_true}
 use Rattle.run_text.specs.Lines.{Line, keyed, last, same_key}

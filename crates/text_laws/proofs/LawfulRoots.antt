@@ -15,7 +15,7 @@ use Rattle.pool_law.specs.Dids as says
 use Rattle.pool_law.specs.Limits.{geometry_of, has_cache}
 use Rattle.pool_law.specs.Logs.{ToldNote}
 use Rattle.pool_law.specs.Options.{check}
-use Rattle.pool_law.specs.Patterns.{Grown, allot, ask_arena, ask_cache, bear, end_of, found_room, give_back, grow_with, grown, not_kept, obtain, offer, one_more, put_away, regrow, release, with_handle}
+use Rattle.pool_law.specs.Patterns.{allot, ask_arena, ask_cache, bear, end_of, found_room, give_back, grow_with, grown, not_kept, obtain, offer, one_more, put_away, regrow, release, with_handle}
 use Rattle.pool_law.specs.Readers.{Log, Reader, ◌>>=◌, ◌>>◌, ◌or◌, access, ask, busy, ending, found, give, given, growth, marked, not_found, note, nothing, step, unless_there}
 use Rattle.pool_law.specs.Same.{same_region}
 use Rattle.pool_law.proofs.SameLemmas.{same_region-is}

@@ -1,6 +1,6 @@
 -- Refusals tell nothing of a command that is done.
-use Rattle.std.proofs.Common.{◌≡◌, ℕ, List, [], ◌∷◌, ◌++◌, subst, true, false, Some, None, Ok, Err, refl}
-use Rattle.std.specs.Prelude.{if◌then◌else◌, map, Result}
+use Rattle.std.proofs.Common.{◌≡◌, ℕ, List, [], ◌∷◌, ◌++◌, subst, true, false, Some, Ok, Err}
+use Rattle.std.specs.Prelude.{map, Result}
 use Rattle.std.proofs.lemmas.Bool.{cond_both}
 use Rattle.pool_law.specs.declared.command.Command.{Command}
 use Rattle.pool_law.specs.declared.run.Reply.{Reply}

@@ -16,7 +16,7 @@ use Rattle.pool_law.specs.LaneStates.{LaneState, composite_from, composite_with,
 use Rattle.pool_law.specs.Lanes.{allotted, answer, answer_by, answer_of, carried_out, composed, consolidate, get_at, get_parts, not_carried_out, parcel_of, received, regrown, release_of, retain_of, set_at, set_parts, count_in, turn}
 use Rattle.pool_law.specs.Legal.{IsLegal, logs_of, replies_of}
 use Rattle.pool_law.specs.Logs.{entries_of, of_lane}
-use Rattle.pool_law.specs.Names.{Plain, bind, parts_at, read_on, reader_of, without, writer_of, written_on}
+use Rattle.pool_law.specs.Names.{Plain, parts_at, reader_of, without, writer_of}
 use Rattle.pool_law.specs.Patterns.{allot, regrow, sweep_if_due}
 use Rattle.pool_law.specs.Readers.{ToldNotes, access, given, note, nothing, read_all, step}
 use Rattle.pool_law.specs.Refusals.{first_refusal, refusals}

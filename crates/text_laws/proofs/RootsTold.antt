@@ -1,9 +1,8 @@
 -- What the lines say of roots: each root that is named is told by its birth.
 use Rattle.std.proofs.Common.{◌≡◌, ℕ, zero, suc, ◌+◌, ◌<◌, ◌≤◌, Bool, true, false, List, [], ◌∷◌, Some, refl, sym, ap, arith, ◌∙◌}
-use Rattle.std.specs.Prelude.{◌||◌, map, slice_get}
+use Rattle.std.specs.Prelude.{map, slice_get}
 use Rattle.pool_law.specs.declared.id.RegionId.{RegionId}
 use Rattle.pool_law.specs.declared.id.RootId.{RootId}
-use Rattle.pool_law.specs.declared.id.ViewData.{ViewData}
 use Rattle.pool_law.specs.declared.note.Did.{Did}
 use Rattle.pool_law.specs.declared.note.Did.TheVariants.{Birth, End}
 use Rattle.pool_law.specs.declared.note.Note.{Note}

@@ -1,5 +1,5 @@
 -- Where the notes of the logs stand in the text, which has them lane by lane.
-use Rattle.std.proofs.Common.{⊎_elim, ◌≡◌, ℕ, zero, suc, ◌+◌, ◌-◌, ◌<◌, ◌≤◌, List, [], ◌∷◌, ◌++◌, length, Option, Some, refl, sym, ap, arith, ◌∙◌}
+use Rattle.std.proofs.Common.{⊎_elim, ◌≡◌, ℕ, zero, suc, ◌+◌, ◌-◌, ◌<◌, ◌≤◌, List, [], ◌∷◌, ◌++◌, length, Some, sym, ap, arith, ◌∙◌}
 use Rattle.std.specs.Prelude.{slice_get}
 use Rattle.std.proofs.lemmas.List.{length-map}
 use Rattle.std.proofs.lemmas.Option.{same_Some}
@@ -58,11 +58,12 @@ spot-of first index (notes ∷ logs) line e =
     ⊎_elim
     (λ here.
     let n = map-get {Y = Line} (λ (n : Note). (first, n)) notes index line here in
+    let own : first ≡ line.0 = ap (λ (l : Line). l.0) n.2 in
     record {
       lane = 0;
       at = index;
       stands = n.1 ∙ ap (λ (l : Line). Some l.1) n.2;
-      own = omega (arith, ap (λ (l : Line). l.0) n.2);
+      own = omega (arith, own);
       place = omega arith;
     })
     (λ more.

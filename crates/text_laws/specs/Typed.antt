@@ -1,5 +1,5 @@
 -- That the numbers of a run are of their types, and its bytes are bytes: so they are in each run in memory.
-use Rattle.std.specs.Prelude.{◌≡◌, ℕ, ◌^◌, ◌<◌}
+use Rattle.std.specs.Prelude.{ℕ, ◌^◌, ◌<◌}
 use Rattle.std.specs.List.{All}
 use Rattle.hex.specs.Hex.{IsBytes}
 use Rattle.pool_law.specs.declared.note.Note.{Note}
