@@ -55,7 +55,7 @@ module _ (shape : Shape) (logs : Logs) (holds : HistoriesPaged shape logs) (acts
     pub event : Event
     pub root : RootId
     pub lane : event.lane ≡ l.0
-    pub place : j ≡ ahead l.0 logs + event.at
+    pub index : j ≡ ahead l.0 logs + event.at
     pub owner : b.1.owner ≡ l.0
     pub happened : Happens logs (record { event = event; move = Begins root b.1 })
     pub one : with_uses 0 b.1 ≡ with_uses 0 r
@@ -73,7 +73,7 @@ module _ (shape : Shape) (logs : Logs) (holds : HistoriesPaged shape logs) (acts
         event = record { object = m.0; did = m.2; lane = l.0; at = p.at; number = m.1 };
         root = u.0;
         lane = refl;
-        place = p.place;
+        index = p.place;
         owner = use-owner shape logs holds acts l.0 p.at m.1 m.0 m.2 b.1 stands m.5;
         happened = u.1;
         one =
@@ -163,7 +163,7 @@ module _ (shape : Shape) (logs : Logs) (holds : HistoriesPaged shape logs) (acts
           let low : u.event.at < v.event.at =
           at-less logs order u.event.lane u.event.at v.event.at
           (At u.event.object u.event.number u.event.did) u.happened.stands (omega (arith, first, moment)) in
-          omega (arith, u.place, v.place, low, ap (λ (x : ℕ). ahead x logs) lanes)
+          omega (arith, u.index, v.index, low, ap (λ (x : ℕ). ahead x logs) lanes)
 
   -- the line of the use that gave the region its uses
   pub record LineOf : Type 0 where
@@ -271,7 +271,7 @@ module _ (shape : Shape) (logs : Logs) (holds : HistoriesPaged shape logs) (acts
         let place_is : length front ≡ ahead line.0 logs + (here logs front back line is).at =
         (here logs front back line is).place in
         let low : u.event.at < t.event.at =
-        omega (arith, below, place_is, u.place, at_is, ap (λ (x : ℕ). ahead x logs) own) in
+        omega (arith, below, place_is, u.index, at_is, ap (λ (x : ℕ). ahead x logs) own) in
         let earlier : place logs order t.event.lane u.event.at < when logs order t.event =
         later-in_log logs order t.event.lane u.event.at t.event.at (At t.event.object t.event.number t.event.did)
         h.stands low in
