@@ -34,9 +34,9 @@ refusal-suits c (Reply.OkNumber k) h = absurd h
 refusal-suits c _ h = tt
 
 -- a result, if it is a refusal, tells nothing
-abbrev pub ErrRefuses : {A : Type 0} → Result A Reply → Type 0
-ErrRefuses (Ok a) = Unit {0}
-ErrRefuses (Err reply) = IsRefusal reply
+abbrev pub ErrRefuses : (A : Type 0) → Result A Reply → Type 0
+ErrRefuses A (Ok a) = Unit {0}
+ErrRefuses A (Err reply) = IsRefusal reply
 
 abbrev Refuses : Refusal → Type 0
 Refuses r = IsRefusal r.reply

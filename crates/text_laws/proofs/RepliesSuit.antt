@@ -50,53 +50,57 @@ gives-if P false r q g h = h
 
 -- ---- Results.
 
-bear-refuses : (lane place size : ℕ) (o : Option RegionId) → Gives ErrRefuses (bear lane place size o)
+bear-refuses : (lane place size : ℕ) (o : Option RegionId) → Gives (ErrRefuses New) (bear lane place size o)
 bear-refuses lane place size None =
-    gives-bind ErrRefuses (note (Object.Bin lane) (says.home place)) _ (λ _. gives-give ErrRefuses (Err Reply.Full) tt)
+    gives-bind (ErrRefuses New) (note (Object.Bin lane) (says.home place)) _
+    (λ _. gives-give (ErrRefuses New) (Err Reply.Full) tt)
 bear-refuses lane place size (Some region) =
-    gives-bind ErrRefuses (note (Object.Root place) (says.birth place size (one_more region))) _
-    (λ root. gives-bind ErrRefuses (step root says.born) _ (λ _. gives-give ErrRefuses (Ok _) tt))
+    gives-bind (ErrRefuses New) (note (Object.Root place) (says.birth place size (one_more region))) _
+    (λ root. gives-bind (ErrRefuses New) (step root says.born) _ (λ _. gives-give (ErrRefuses New) (Ok _) tt))
 
-pub allot-refuses : (shape : Shape) (lane size : ℕ) → Gives ErrRefuses (allot shape lane size)
+pub allot-refuses : (shape : Shape) (lane size : ℕ) → Gives (ErrRefuses New) (allot shape lane size)
 allot-refuses shape lane size =
-    gives-or ErrRefuses (note (Object.Bin lane) says.no_handle >> give (Err Reply.Handles))
+    gives-or (ErrRefuses New) (note (Object.Bin lane) says.no_handle >> give (Err Reply.Handles))
     (note (Object.Bin lane) says.handle >>= with_handle shape lane size)
-    (gives-bind ErrRefuses (note (Object.Bin lane) says.no_handle) _
-    (λ _. gives-give ErrRefuses (Err Reply.Handles) tt))
-    (gives-bind ErrRefuses (note (Object.Bin lane) says.handle) (with_handle shape lane size)
-    (λ place. gives-bind ErrRefuses (given (class_of (geometry_of shape) size)) _
-    (λ class. gives-bind ErrRefuses (obtain shape lane class) (bear lane place size) (bear-refuses lane place size))))
+    (gives-bind (ErrRefuses New) (note (Object.Bin lane) says.no_handle) _
+    (λ _. gives-give (ErrRefuses New) (Err Reply.Handles) tt))
+    (gives-bind (ErrRefuses New) (note (Object.Bin lane) says.handle) (with_handle shape lane size)
+    (λ place. gives-bind (ErrRefuses New) (given (class_of (geometry_of shape) size)) _
+    (λ class. gives-bind (ErrRefuses New) (obtain shape lane class) (bear lane place size)
+    (bear-refuses lane place size))))
 
-grow_with-refuses : (root : RootId) (size : ℕ) (o : Option RegionId) → Gives ErrRefuses (grow_with root size o)
-grow_with-refuses root size None = gives-give ErrRefuses (Err Reply.Full) tt
+grow_with-refuses : (root : RootId) (size : ℕ) (o : Option RegionId) → Gives (ErrRefuses ℕ) (grow_with root size o)
+grow_with-refuses root size None = gives-give (ErrRefuses ℕ) (Err Reply.Full) tt
 grow_with-refuses root size (Some region) =
-    gives-bind ErrRefuses (grown root size region) _
-    (λ g. gives-bind ErrRefuses (given (check (nat_le size g.capacity))) _
-    (λ _. gives-bind ErrRefuses (put_away g.spare) _ (λ _. gives-give ErrRefuses (Ok g.capacity) tt)))
+    gives-bind (ErrRefuses ℕ) (grown root size region) _
+    (λ g. gives-bind (ErrRefuses ℕ) (given (check (nat_le size g.capacity))) _
+    (λ _. gives-bind (ErrRefuses ℕ) (put_away g.spare) _ (λ _. gives-give (ErrRefuses ℕ) (Ok g.capacity) tt)))
 
 pub regrow-refuses : (shape : Shape) (lane : ℕ) (root : RootId) (size : ℕ)
-    → Gives ErrRefuses (regrow shape lane root size)
+    → Gives (ErrRefuses ℕ) (regrow shape lane root size)
 regrow-refuses shape lane root size =
-    gives-bind ErrRefuses (found_room root size) _
-    (λ capacity. gives-bind ErrRefuses (given (class_of (geometry_of shape) size)) _
-    (λ class. gives-if ErrRefuses (nat_le size capacity) (give (Ok capacity))
-    (obtain shape lane class >>= grow_with root size) (gives-give ErrRefuses (Ok capacity) tt)
-    (gives-bind ErrRefuses (obtain shape lane class) (grow_with root size) (grow_with-refuses root size))))
+    gives-bind (ErrRefuses ℕ) (found_room root size) _
+    (λ capacity. gives-bind (ErrRefuses ℕ) (given (class_of (geometry_of shape) size)) _
+    (λ class. gives-if (ErrRefuses ℕ) (nat_le size capacity) (give (Ok capacity))
+    (obtain shape lane class >>= grow_with root size) (gives-give (ErrRefuses ℕ) (Ok capacity) tt)
+    (gives-bind (ErrRefuses ℕ) (obtain shape lane class) (grow_with root size) (grow_with-refuses root size))))
 
-copied-refuses : (shape : Shape) (c : Composite) (r : Result New Reply) → ErrRefuses r
-    → Gives ErrRefuses (copied_to shape c r)
-copied-refuses shape c (Err reply) h = gives-give ErrRefuses (Err reply) h
+copied-refuses : (shape : Shape) (c : Composite) (r : Result New Reply) → ErrRefuses New r
+    → Gives (ErrRefuses Composite) (copied_to shape c r)
+copied-refuses shape c (Err reply) h = gives-give (ErrRefuses Composite) (Err reply) h
 copied-refuses shape c (Ok new) h =
-    gives-bind ErrRefuses (copy_parts new.root 0 (filled c.parts)) _
-    (λ _. gives-bind ErrRefuses (release_parts shape c.parts) _
-    (λ _. gives-give ErrRefuses (Ok (moved_to new.root c)) tt))
+    gives-bind (ErrRefuses Composite) (copy_parts new.root 0 (filled c.parts)) _
+    (λ _. gives-bind (ErrRefuses Composite) (release_parts shape c.parts) _
+    (λ _. gives-give (ErrRefuses Composite) (Ok (moved_to new.root c)) tt))
 
-pub consolidate-refuses : (shape : Shape) (lane : ℕ) (c : Composite) → Gives ErrRefuses (consolidate shape lane c)
+pub consolidate-refuses : (shape : Shape) (lane : ℕ) (c : Composite)
+    → Gives (ErrRefuses Composite) (consolidate shape lane c)
 consolidate-refuses shape lane c =
-    gives-if ErrRefuses (is_crowded c) (allot shape lane (size_of c.parts) >>= copied_to shape c) (give (Ok c))
-    (gives-with ErrRefuses ErrRefuses (allot shape lane (size_of c.parts)) (copied_to shape c)
+    gives-if (ErrRefuses Composite) (is_crowded c) (allot shape lane (size_of c.parts) >>= copied_to shape c)
+    (give (Ok c))
+    (gives-with (ErrRefuses New) (ErrRefuses Composite) (allot shape lane (size_of c.parts)) (copied_to shape c)
     (allot-refuses shape lane (size_of c.parts)) (copied-refuses shape c))
-    (gives-give ErrRefuses (Ok c) tt)
+    (gives-give (ErrRefuses Composite) (Ok c) tt)
 
 release-refuses : (shape : Shape) (root : RootId) → Gives IsRefusal (release shape root)
 release-refuses shape root =
@@ -162,16 +166,16 @@ module _ (c : Command) where
   received-suits bare s name (Some v) = bare
 
   pub composed-suits : tale_of c ≡ Tale.OfNumber → (s : LaneState) (name : ℕ) (r : Result Composite Reply)
-      → ErrRefuses r → Suits c (composed s name r).reply
+      → ErrRefuses Composite r → Suits c (composed s name r).reply
   composed-suits number s name (Err reply) h = refusal-suits c reply h
   composed-suits number s name (Ok k) h = number
 
   pub regrown-suits : tale_of c ≡ Tale.OfNumber → (s : LaneState) (name : ℕ) (v : ViewData) (r : Result ℕ Reply)
-      → ErrRefuses r → Suits c (regrown s name v r).reply
+      → ErrRefuses ℕ r → Suits c (regrown s name v r).reply
   regrown-suits number s name v (Err reply) h = refusal-suits c reply h
   regrown-suits number s name v (Ok capacity) h = number
 
-  pub allotted-suits : tale_of c ≡ Tale.OfPlace → (s : LaneState) (name : ℕ) (r : Result New Reply) → ErrRefuses r
+  pub allotted-suits : tale_of c ≡ Tale.OfPlace → (s : LaneState) (name : ℕ) (r : Result New Reply) → ErrRefuses New r
       → Suits c (allotted s name r).reply
   allotted-suits place s name (Err reply) h = refusal-suits c reply h
   allotted-suits place s name (Ok new) h = (place, refl)

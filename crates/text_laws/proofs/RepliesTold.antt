@@ -10,6 +10,7 @@ use Rattle.pool_law.specs.declared.run.LaneLog.{LaneLog}
 use Rattle.pool_law.specs.declared.run.Reply.{Reply}
 use Rattle.pool_law.specs.declared.run.Run.{Run}
 use Rattle.pool_law.specs.declared.run.Shape.{Shape}
+use Rattle.pool_law.specs.Composites.{Composite}
 use Rattle.pool_law.specs.Dids as says
 use Rattle.pool_law.specs.LaneLaw.{IsLaneLog, before_stop, lane_run, lane_step, note_counts, pieces, replies_in, stopped_run, sweep_period}
 use Rattle.pool_law.specs.LaneStates.{LaneState, composite_from, composite_with, log_at, named, new_lane, state_at, view_named}
@@ -17,7 +18,7 @@ use Rattle.pool_law.specs.Lanes.{allotted, answer, answer_by, answer_of, carried
 use Rattle.pool_law.specs.Legal.{IsLegal, logs_of, replies_of}
 use Rattle.pool_law.specs.Logs.{entries_of, of_lane}
 use Rattle.pool_law.specs.Names.{Plain, parts_at, reader_of, without, writer_of}
-use Rattle.pool_law.specs.Patterns.{allot, regrow, sweep_if_due}
+use Rattle.pool_law.specs.Patterns.{New, allot, regrow, sweep_if_due}
 use Rattle.pool_law.specs.Readers.{ToldNotes, access, given, note, nothing, read_all, step}
 use Rattle.pool_law.specs.Refusals.{first_refusal, refusals}
 use Rattle.run_laws.proofs.Readings.{bind-some, read_all-is}
@@ -32,7 +33,7 @@ use Rattle.text_laws.proofs.RepliesSuit.{AnswerSuits, Gives, allot-refuses, allo
 carried_out-suits : (shape : Shape) (lane : ℕ) (s : LaneState) (c : Command)
     → Gives (AnswerSuits c) (carried_out shape lane s c)
 carried_out-suits shape lane s (Command.Alloc new n) =
-    gives-with ErrRefuses (AnswerSuits (Command.Alloc new n)) (allot shape lane n) _ (allot-refuses shape lane n)
+    gives-with (ErrRefuses New) (AnswerSuits (Command.Alloc new n)) (allot shape lane n) _ (allot-refuses shape lane n)
     (λ got h. said (Command.Alloc new n) (allotted s new got) (allotted-suits (Command.Alloc new n) refl s new got h))
 carried_out-suits shape lane s (Command.Set v i bytes false) =
     gives-bind (AnswerSuits (Command.Set v i bytes false)) (given (named s v)) (set_at s i bytes)
@@ -90,19 +91,19 @@ carried_out-suits shape lane s (Command.Recv new from) =
     (received-suits (Command.Recv new from) refl s new parcel.view))
 carried_out-suits shape lane s (Command.Compose new vs) =
     gives-bind (AnswerSuits (Command.Compose new vs)) (given (composite_from s vs)) _
-    (λ k. gives-with ErrRefuses (AnswerSuits (Command.Compose new vs)) (consolidate shape lane k) _
+    (λ k. gives-with (ErrRefuses Composite) (AnswerSuits (Command.Compose new vs)) (consolidate shape lane k) _
     (consolidate-refuses shape lane k)
     (λ made h. said (Command.Compose new vs) (composed s new made)
     (composed-suits (Command.Compose new vs) refl s new made h)))
 carried_out-suits shape lane s (Command.Add whole v) =
     gives-bind (AnswerSuits (Command.Add whole v)) (given (composite_with s whole v)) _
-    (λ k. gives-with ErrRefuses (AnswerSuits (Command.Add whole v)) (consolidate shape lane k) _
+    (λ k. gives-with (ErrRefuses Composite) (AnswerSuits (Command.Add whole v)) (consolidate shape lane k) _
     (consolidate-refuses shape lane k)
     (λ made h. said (Command.Add whole v) (composed s whole made)
     (composed-suits (Command.Add whole v) refl s whole made h)))
 carried_out-suits shape lane s (Command.Capacity v n) =
     gives-bind (AnswerSuits (Command.Capacity v n)) (given (view_named s v)) _
-    (λ view. gives-with ErrRefuses (AnswerSuits (Command.Capacity v n)) (regrow shape lane view.root n) _
+    (λ view. gives-with (ErrRefuses ℕ) (AnswerSuits (Command.Capacity v n)) (regrow shape lane view.root n) _
     (regrow-refuses shape lane view.root n)
     (λ got h. said (Command.Capacity v n) (regrown s v view got)
     (regrown-suits (Command.Capacity v n) refl s v view got h)))
