@@ -47,7 +47,7 @@ pub last-or : {X : Type 0} (says : Line → Option X) (lines : List Line) → Ha
 last-or says [] = inl (refl, λ j l e. absurd (cc e))
 last-or {X} says (l ∷ lines) =
     ⊎_elim
-    (λ no. go (says l) refl no.0 no.1)
+    (λ still. go (says l) refl still.0 still.1)
     (λ found. inr (found.0, ap (λ o. option_or o (says l)) found.1, later found.0 found.2))
     (last-or says lines)
   where
@@ -82,7 +82,7 @@ pub last-only : {X : Type 0} (says : Line → Option X) (lines : List Line) (x :
     → last says lines ≡ Some x
 last-only {X} says lines x i line there is only =
     ⊎_elim
-    (λ no. let both : ◌≡◌ {A = Option X} None (Some x) = sym (no.1 i line there) ∙ is in absurd (cc both))
+    (λ still. let both : ◌≡◌ {A = Option X} None (Some x) = sym (still.1 i line there) ∙ is in absurd (cc both))
     (λ found.
     let f : LastOf says lines found.0 = found.2 in
     found.1 ∙ ap (λ y. Some y) (only f.at f.line found.0 f.there f.is))

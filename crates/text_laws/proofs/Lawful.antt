@@ -133,10 +133,10 @@ module _ (count : ℕ) where
   found-lawful r h =
       keeps-bind (lawful-chain count) r (λ a. give (Some a)) h (λ a. keeps-give (lawful-chain count) (Some a))
 
-  pub not_found-lawful : {A B : Type 0} (r : Reader A) → Keeps (Lawful count) r
-      → Keeps (Lawful count) (not_found {A = A} {B = B} r)
-  not_found-lawful {A} {B} r h =
-      let none : Option B = None in
+  pub not_found-lawful : {A : Type 0} (r : Reader A) → Keeps (Lawful count) r
+      → Keeps {A = Option RegionId} (Lawful count) (not_found r)
+  not_found-lawful r h =
+      let none : Option RegionId = None in
       keeps-then (lawful-chain count) r (give none) h (keeps-give (lawful-chain count) none)
 
   pub unless-lawful : {A : Type 0} (o : Option A) (r : Reader (Option A)) → Keeps (Lawful count) r

@@ -1,5 +1,5 @@
 -- What each command of a lane notes is lawful.
-use Rattle.std.proofs.Common.{ℕ, ◌+◌, ◌-◌, List, [], ◌∷◌, ◌++◌, length, take, drop, Bool, true, false, Option, Some, None, Ok, Err, refl}
+use Rattle.std.proofs.Common.{ℕ, ◌+◌, List, [], ◌∷◌, ◌++◌, length, take, drop, Bool, true, false, Option, Some, None, Ok, Err, refl}
 use Rattle.std.specs.Prelude.{◌==◌, if◌then◌else◌, Result}
 use Rattle.size_classes.specs.Sizes.{class_count}
 use Rattle.pool_law.specs.declared.command.Command.{Command}

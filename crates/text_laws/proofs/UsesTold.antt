@@ -221,13 +221,13 @@ module _ (shape : Shape) (logs : Logs) (holds : HistoriesPaged shape logs) (acts
       → uses_in (last (says_use (taking_key r)) lines) ≡ r.uses
   told-uses lines there most inside =
       ⊎_elim
-      (λ no. ⊎_elim
+      (λ still. ⊎_elim
       (λ more.
       let f : LineOf = use-before more in
       let both : ◌≡◌ {A = Option Begun} None (Some f.begun_is) =
-      sym (no.1 (ahead f.lane logs + f.at) (f.lane, f.note) (inside f)) ∙ f.says in
+      sym (still.1 (ahead f.lane logs + f.at) (f.lane, f.note) (inside f)) ∙ f.says in
       absurd (cc both))
-      (λ none. let zero_uses : 0 ≡ r.uses = omega (arith, none) in ap uses_in no.0 ∙ zero_uses)
+      (λ none. let zero_uses : 0 ≡ r.uses = omega (arith, none) in ap uses_in still.0 ∙ zero_uses)
       (cases_lt 0 r.uses))
       (λ found. ap uses_in found.1 ∙ by found.0 found.2)
       (last-or (says_use (taking_key r)) lines)
