@@ -1,8 +1,38 @@
 """Traces that are no examples, with what is changed in the text of their runs, and what run_judge says of it."""
-from judging import ANSWERS, LEGAL
+from judging import ANSWERS, HISTORY, LEGAL
+
+
+
+def ends_at(lane, place, kept, home):
+    """What a lane notes that gets the root at a place, which uses the region for the last time, and closes its own caches, of which none was used."""
+    root = f"{place}.1"
+    notes = [f"mail 0 {lane} 1 fetch {root} 0+24 0 0", f"ref {root} ended", f"root {place} 2 end 1", f"ref {root} vacated"]
+    notes += [f"cache 0 1 {kept} kept 1", f"bin 0 {home} home {place}"]
+    notes += [f"cache {lane} {of_class} 1 close 0" for of_class in range(40)]
+    return "".join(f"note {lane} {note}\n" for note in notes)
+
 
 # Traces, the places that are changed in the text of `smallest` so that it is one of theirs, and what is said of that.
 MADE = [
+    # a region that is used a third time before its second use: each object could have it so, but these notes go in a circle. The lines of lane 0
+    # tell that its first hit, the cache's third note, comes behind one use; what the cache keeps as its second note was used twice
+    (
+        '[[["alloc","a",24],["send","a",1],["alloc","b",24],["alloc","c",24],["send","c",2]],'
+        '[["recv","x",0],["release","x"]],[["recv","y",0],["release","y"]]]',
+        {
+            "0.1 set ok\n0.2 get ok 68656c6c6f\n0.3 release freed": "0.1 send ok\n0.2 alloc ok 32 0.0+0\n0.3 alloc ok 32 0.0+0\n0.4 send ok\n"
+            "1.0 recv ok\n1.1 release freed\n2.0 recv ok\n2.1 release freed",
+            "root 0 2 set 0 68656c6c6f\nnote 0 root 0 3 get 0 68656c6c6f\nnote 0 ref 0.1 ended\nnote 0 root 0 4 end 1\n"
+            "note 0 ref 0.1 vacated\nnote 0 cache 0 1 2 kept 1\nnote 0 bin 0 2 home 0\n": "mail 0 1 1 post 0.1 0+24 0 0\n"
+            "note 0 bin 0 2 handle 1\nnote 0 cache 0 1 3 hit 1\nnote 0 root 1 1 birth 1 0.0+0 1 3 24\nnote 0 ref 1.1 born\n"
+            "note 0 bin 0 3 handle 2\nnote 0 cache 0 1 5 hit 1\nnote 0 root 2 1 birth 1 0.0+0 1 2 24\nnote 0 ref 2.1 born\n"
+            "note 0 mail 0 2 1 post 2.1 0+24 0 0\n",
+            "cache 0 1 3 close 1\nnote 0 cache 0 1 4 shed 1\nnote 0 arena 0 2 give 0+0 1\n": "cache 0 1 6 close 0\n",
+            "chunk 0.0": ends_at(1, 0, 4, 4) + ends_at(2, 2, 2, 5) + "chunk 0.0",
+            "roots 1 live 0": "roots 3 live 1",
+        },
+        f"1 not legal: cache 0 1 number 3: {HISTORY}",
+    ),
     # the release ends the count, though the lane has retained the root
     (
         '[[["alloc","a",24],["retain","a"],["release","a"]]]',

@@ -1,2 +1,3 @@
 pub mod CaseLaws
 pub mod RowSteps
+pub mod PlayedLaws

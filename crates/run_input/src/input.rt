@@ -21,8 +21,9 @@ use trace_text::RowNo;
 ///
 /// The source is read to its end, or to one byte past the longest text and then no further. The run is one of
 /// that trace, over the pool that the words and the trace ask for, with exactly that text, and where the text
-/// determines one, that one; of a text that the pool can't have made it may be any. `Form` and `ReadFault` have
-/// the cause that their names say; where the text is `Unread`, it determines no run.
+/// determines one, that one: so where the pool can have made one, its notes in one order; of another text it
+/// may be any. `Form` and `ReadFault` have the cause that their names say; where the text is `Unread`, it
+/// determines no run, and the pool can have made none.
 pub fn run_from<S: Source>(alloc: Global, src: &mut S) -> Result<Run, InputNo>
     ensures { IsFound result (source_span S.left S.faults src.old src.new) }
 {
