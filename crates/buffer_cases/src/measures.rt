@@ -36,10 +36,24 @@ impl Serve for Counts {
 // Lanes, order, page, moves and turns of a pool, and what opening it answers. The first has as many
 // moves and turns as a pool can have, 2^30 - 1 and 2^62 - 1.
 const ROWS: [(u32, u32, u32, u32, u64, Result<(u32, usize), OpenNo>); 8] = [
-    (1, 3, 8192, 1_073_741_823, 4_611_686_018_427_387_903, Ok((1, 1))),
+    (
+        1,
+        3,
+        8192,
+        1_073_741_823,
+        4_611_686_018_427_387_903,
+        Ok((1, 1)),
+    ),
     (16, 3, 4096, 67_108_863, 64, Ok((16, 16))),
     (16, 3, 4096, 67_108_864, 64, Err(OpenNo::Budget)),
-    (1, 3, 8192, 0, 4_611_686_018_427_387_904, Err(OpenNo::Budget)),
+    (
+        1,
+        3,
+        8192,
+        0,
+        4_611_686_018_427_387_904,
+        Err(OpenNo::Budget),
+    ),
     (1, 3, 8192, 0, 0, Ok((1, 1))),
     (1, 2, 8192, 0, 0, Err(OpenNo::Shape)),
     (1, 12, 4096, 0, 0, Err(OpenNo::Shape)),
@@ -47,8 +61,11 @@ const ROWS: [(u32, u32, u32, u32, u64, Result<(u32, usize), OpenNo>); 8] = [
 ];
 
 // How many threads a pool is asked for, and what opening it answers.
-const THREADS: [(u32, Result<(u32, usize), OpenNo>); 3] =
-    [(2, Ok((2, 2))), (0, Err(OpenNo::Shape)), (17, Err(OpenNo::Shape))];
+const THREADS: [(u32, Result<(u32, usize), OpenNo>); 3] = [
+    (2, Ok((2, 2))),
+    (0, Err(OpenNo::Shape)),
+    (17, Err(OpenNo::Shape)),
+];
 
 fn opened(alloc: Global, config: &Config) -> Result<(u32, usize), OpenNo> {
     match open(alloc, config, Counts) {
@@ -76,6 +93,9 @@ fn measures_open_or_are_refused(rt: HostRuntime) {
         assert!(rt; opened(alloc, &config) == want, "row {k}");
     }
     for (threads, want) in THREADS {
-        assert!(rt; opened(alloc, &Config::for_threads(threads)) == want, "{threads} threads");
+        assert!(rt;
+            opened(alloc, &Config::for_threads(threads)) == want,
+            "{threads} threads"
+        );
     }
 }

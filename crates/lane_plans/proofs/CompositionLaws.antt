@@ -26,7 +26,6 @@ use Rattle.lane_context.specs.Works.{IsReady}
 -- ---- Which composites are too long.
 
 module _ (shape : Shape) (c : Composite) where
-
   few_bytes : size_of c.parts ≤ most_bytes → is_too_long shape (Some c)
       ≡ (is_crowded c && has_no_class shape (size_of c.parts))
   few_bytes le =

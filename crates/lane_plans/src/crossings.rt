@@ -59,7 +59,12 @@ pub(crate) fn get_stage(
 }
 
 /// The work on a range: where it has no bytes, the reply is this.
-pub(crate) fn crossing(name: u32, marks: Option<Marks>, stage: Option<Crossing>, reply: Reply) -> Work
+pub(crate) fn crossing(
+    name: u32,
+    marks: Option<Marks>,
+    stage: Option<Crossing>,
+    reply: Reply,
+) -> Work
     ensures { result ≡ work_on name marks stage reply }
 {
     match stage {

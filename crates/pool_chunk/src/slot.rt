@@ -31,8 +31,9 @@ pub(crate) enum PageUse {
 
 // For each page a chunk has a slot, and its map the memory of a run, two lengths of four bytes and a
 // bit for each of 40 page classes: together at most a twentieth of a page of 8,192 bytes.
-const _: () =
-    prove!(size_of::<PageUse>() + size_of::<Option<Piece>>() + 2 * 4 + 40 / 8 <= 8192 / 20);
+const _: () = prove!(
+    size_of::<PageUse>() + size_of::<Option<Piece>>() + 2 * 4 + 40 / 8 <= 8192 / 20
+);
 
 impl PageUse {
     // Whether nothing begins there.

@@ -36,7 +36,6 @@ met_by pool old new (Tried (Both h r)) some cause = cause
 met_by pool old new (Piece r) some cause = cause
 
 module _ (pool : SharedPool) (old new : PoolSeat) where
-
   -- nothing is left
   pub none_away : (spent turns : ℕ) → spent ≤ turns → Proceeds pool empty_hand spent 0 no_change old new
       → IsLater pool old new → PutsAway pool turns old new nothing

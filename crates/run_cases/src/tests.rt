@@ -40,13 +40,7 @@ fn closing(alloc: Global) -> Result<Vec<Note>, AllocError> {
 }
 
 // A run over this pool of one lane with one command, which is answered so and said to have made so many notes.
-fn answered(
-    rt: &impl Abort,
-    alloc: Global,
-    shape: Shape,
-    command: Command,
-    notes: u32,
-) -> Run {
+fn answered(rt: &impl Abort, alloc: Global, shape: Shape, command: Command, notes: u32) -> Run {
     let answer = Answered {
         reply: Reply::Unbound,
         notes,
@@ -86,7 +80,16 @@ fn answered(
 // second lane of one.
 const ROWS: [(u32, u32, Option<u32>, u32, Option<Breach>); 5] = [
     (9, 1, None, 0, None),
-    (9, 1, None, 1, Some(Breach::Answers { lane: 0, command: 0 })),
+    (
+        9,
+        1,
+        None,
+        1,
+        Some(Breach::Answers {
+            lane: 0,
+            command: 0,
+        }),
+    ),
     (12, 1, None, 0, Some(Breach::Measures)),
     (9, 2, None, 0, Some(Breach::Lanes)),
     (9, 1, Some(1), 0, Some(Breach::Commands)),

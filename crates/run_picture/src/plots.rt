@@ -136,7 +136,12 @@ fn plot_of(
 }
 
 /// The arenas of a run as they are drawn.
-pub fn plots_of(alloc: Global, run: &Run, sizes: &Sizes, order: &Order) -> Result<Vec<Plot>, AllocError>
+pub fn plots_of(
+    alloc: Global,
+    run: &Run,
+    sizes: &Sizes,
+    order: &Order,
+) -> Result<Vec<Plot>, AllocError>
     requires sizes { sizes.now ≡ geometry_of run.now.shape }
     requires chunks { run.now.shape.chunks ≤ 2 ^ 16 }
     ensures arenas { IfOk result (λ plots. arenas_in plots.items ≡ below run.now.shape.arenas) }

@@ -259,8 +259,7 @@ module _ (pool : SharedPool) (size class : ℕ) (first old new : PoolSeat) where
       → AllocatesBy pool 4 size class (with_arena pool.table.layout.shape (lane_of old) class size h.place) None answer
       old new → IfErr answer (IsWornAt pool h.place old new) → Allocates pool size class None answer first new
   all_placed h stopped answer x worn =
-      let shape = pool.table.layout.shape in let took = stopped.came.0 in
-      (
+      let shape = pool.table.layout.shape in let took = stopped.came.0 in (
         allocates_on pool size class None answer first old new (with_place h.place) 2 4 6 of_all
             (with_arena shape (lane_of first) class size h.place) stopped.proceeds stopped.later stopped.came.1
             (subst (λ (l : ℕ). AllocatesBy pool 4 size class (with_arena shape l class size h.place) None answer old
@@ -274,8 +273,7 @@ module _ (pool : SharedPool) (size class : ℕ) (first old new : PoolSeat) where
       → Proceeds pool empty_hand 3 0 no_change old new → IsLater pool old new
       → Allocates pool size class None (Err no.Worn) first new
   all_worn h r stopped did later =
-      let meets = stopped.came in let finds = meets.finds in
-      (
+      let meets = stopped.came in let finds = meets.finds in (
         record {
           proceeds =
               proceeds_on pool no_change (with_both h.place r.id) empty_hand 2 0 3 0 6 0 first old new stopped.proceeds

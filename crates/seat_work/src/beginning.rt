@@ -39,12 +39,7 @@ pub enum Stop {
 /// steps that an allocation makes where nothing is in its way: a handle, a region of the lane's
 /// cache, and the birth. `class` is that of the size. Or where it stopped.
 #[inline(always)]
-pub fn begin(
-    pool: &SharedPool,
-    seat: &mut PoolSeat,
-    size: u32,
-    class: u32,
-) -> Result<RootId, Stop>
+pub fn begin(pool: &SharedPool, seat: &mut PoolSeat, size: u32, class: u32) -> Result<RootId, Stop>
     requires works { Works pool.now empty_hand 6 0 seat.old }
     requires class { class_of (geometry_of pool.now.table.layout.shape) size ≡ Some class }
     ensures allocates { IfOk result (λ root.

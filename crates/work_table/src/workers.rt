@@ -36,9 +36,7 @@ pub fn step_together<R: Threads + Wait + Sync, E: Sync, M: Machine<E> + Send>(
     let count = machines.len().min(threads as usize).max(1);
     let blank = Blank::new(count as u64);
     let pace = Pace::together(count, machines.len());
-    step_as::<Brand, R, E, Idler, M>(
-        rt, alloc, shared, &mut Idler, machines, blank, count, pace,
-    )
+    step_as::<Brand, R, E, Idler, M>(rt, alloc, shared, &mut Idler, machines, blank, count, pace)
 }
 
 /// The same, and this thread steps `own` too, which no other does.

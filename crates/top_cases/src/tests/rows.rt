@@ -115,21 +115,98 @@ const WRITES: u64 = 7;
 /// What a run under a gate that stops a lane is given, and what comes of it: its workers, its trace,
 /// the lane that is stopped and its line, the status, what is written, and for how many lines of its
 /// two lanes the gate was asked.
-pub type StopRow = (&'static str, &'static str, LanePlace, Status, &'static str, (u64, u64));
+pub type StopRow = (
+    &'static str,
+    &'static str,
+    LanePlace,
+    Status,
+    &'static str,
+    (u64, u64),
+);
 
 /// Those of which a lane is stopped: the lane that receives, the lane that sends, and one that sends
 /// itself a buffer.
 pub const STOPPED_RUNS: [StopRow; 10] = [
-    ("1", HAND_OVER, (1, 0), Status::Leaks, RECEIVER_STOPPED, (3, 1)),
-    ("2", HAND_OVER, (1, 0), Status::Leaks, RECEIVER_STOPPED, (3, 1)),
-    ("4", HAND_OVER, (1, 0), Status::Leaks, RECEIVER_STOPPED, (3, 1)),
-    ("16", HAND_OVER, (1, 0), Status::Leaks, RECEIVER_STOPPED, (3, 1)),
-    ("1", HAND_OVER, (0, 2), Status::Leaks, SENDER_STOPPED, (3, 3)),
-    ("2", HAND_OVER, (0, 2), Status::Leaks, SENDER_STOPPED, (3, 3)),
-    ("4", HAND_OVER, (0, 2), Status::Leaks, SENDER_STOPPED, (3, 3)),
-    ("16", HAND_OVER, (0, 2), Status::Leaks, SENDER_STOPPED, (3, 3)),
-    ("1", TO_ITSELF, (0, 0), Status::Whole, STOPPED_AT_ONCE, (1, 0)),
-    ("1", TO_ITSELF, (0, 2), Status::Leaks, STOPPED_BEHIND_ITS_SEND, (3, 0)),
+    (
+        "1",
+        HAND_OVER,
+        (1, 0),
+        Status::Leaks,
+        RECEIVER_STOPPED,
+        (3, 1),
+    ),
+    (
+        "2",
+        HAND_OVER,
+        (1, 0),
+        Status::Leaks,
+        RECEIVER_STOPPED,
+        (3, 1),
+    ),
+    (
+        "4",
+        HAND_OVER,
+        (1, 0),
+        Status::Leaks,
+        RECEIVER_STOPPED,
+        (3, 1),
+    ),
+    (
+        "16",
+        HAND_OVER,
+        (1, 0),
+        Status::Leaks,
+        RECEIVER_STOPPED,
+        (3, 1),
+    ),
+    (
+        "1",
+        HAND_OVER,
+        (0, 2),
+        Status::Leaks,
+        SENDER_STOPPED,
+        (3, 3),
+    ),
+    (
+        "2",
+        HAND_OVER,
+        (0, 2),
+        Status::Leaks,
+        SENDER_STOPPED,
+        (3, 3),
+    ),
+    (
+        "4",
+        HAND_OVER,
+        (0, 2),
+        Status::Leaks,
+        SENDER_STOPPED,
+        (3, 3),
+    ),
+    (
+        "16",
+        HAND_OVER,
+        (0, 2),
+        Status::Leaks,
+        SENDER_STOPPED,
+        (3, 3),
+    ),
+    (
+        "1",
+        TO_ITSELF,
+        (0, 0),
+        Status::Whole,
+        STOPPED_AT_ONCE,
+        (1, 0),
+    ),
+    (
+        "1",
+        TO_ITSELF,
+        (0, 2),
+        Status::Leaks,
+        STOPPED_BEHIND_ITS_SEND,
+        (3, 0),
+    ),
 ];
 
 /// What the ends of a run of two lanes that meet do, and what comes of it: the read and the write
@@ -144,8 +221,24 @@ pub const MET_RUNS: [MeetRow; 8] = [
     (READS, NEVER, ROOM, Status::ReadFault, "", NO_READ, 0),
     (READS + 1, NEVER, ROOM, Status::Whole, AT_ONCE_TEXT, "", 1),
     (NEVER, 1, ROOM, Status::WriteFault, "", NO_WRITE, 1),
-    (NEVER, 2, ROOM, Status::WriteFault, "0.0 touch ", NO_WRITE, 1),
-    (NEVER, NEVER, 25, Status::WriteFault, "0.0 touch unbound\n1.0 tou", NO_WRITE, 1),
+    (
+        NEVER,
+        2,
+        ROOM,
+        Status::WriteFault,
+        "0.0 touch ",
+        NO_WRITE,
+        1,
+    ),
+    (
+        NEVER,
+        NEVER,
+        25,
+        Status::WriteFault,
+        "0.0 touch unbound\n1.0 tou",
+        NO_WRITE,
+        1,
+    ),
     (NEVER, WRITES + 1, ROOM, Status::Whole, AT_ONCE_TEXT, "", 1),
 ];
 

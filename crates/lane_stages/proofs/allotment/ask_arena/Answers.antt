@@ -31,7 +31,7 @@ returns-in-Did-default-Some c = λ sampler size.
     (Did.Take class did.region.id)) in
     arena_gave pool old new class did.ensures.seat did.ensures.same did.number c.note_at.result c.args.log.now
     c.write_note.new.log c.write_note.ensures sampler size c.args.handle did.region c.requires.may noted holds.0
-      holds.2 it
+    holds.2 it
 
 pub returns-in-Did-default-None : goal.returns-in-Did-default-None
 returns-in-Did-default-None c = λ sampler size.

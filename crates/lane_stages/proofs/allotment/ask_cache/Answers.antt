@@ -21,10 +21,10 @@ returns-in-Did-default-Some c = λ sampler size.
     (λ r. HoldsRegion pool new r × (r.id.owner ≡ lane_of old) × (r.id.class ≡ class))) did.field-1-is
     did.ensures.region in
     let it : c.note_at.result ≡ Note.At (Cache (lane_of old) class) did.number (Did.Hit did.region.id) =
-      c.note_at.ensures
+    c.note_at.ensures
     ∙ (λ i. Note.At (Cache (c.lane_of.ensures.lane i) class) did.number (Did.Hit did.region.id)) in
     cache_hit pool old new class did.ensures.seat did.ensures.same did.number c.note_at.result c.args.log.now
-      c.write_note.new.log
+    c.write_note.new.log
     c.write_note.ensures sampler size c.args.handle did.region c.requires.may noted holds.0 holds.2 it
 
 pub returns-in-Did-default-None : goal.returns-in-Did-default-None

@@ -28,7 +28,7 @@ overflow_add-used c = let few = c.birth-number.ensures.uses in omega (arith, few
 
 pub write_note-requires-2 : goal.write_note-requires-2
 write_note-requires-2 c = room_behind c.args.log.now c.write_note.new.log c.note_at.result c.write_note.ensures
-  c.requires.room
+    c.requires.room
 
 pub returns : goal.returns
 returns c =
@@ -38,8 +38,8 @@ returns c =
     Born (view_of old).moves) c.next-watch.ensures.watch call.ensures.did in
     root_born pool old new c.args.region.id.class call.ensures.seat call.ensures.same c.args.handle c.args.region root
     call.result.0 c.args.size c.args.sampler.now last c.note_at.result c.note_to.result c.args.log.now
-      c.write_note-2.new.log
+    c.write_note-2.new.log
     (wrote_two c.args.log.now c.write_note.new.log c.write_note-2.new.log c.note_at.result c.note_to.result
-      c.write_note.ensures
+    c.write_note.ensures
     c.write_note-2.ensures) c.requires.may
     noted call.ensures.root.0 call.ensures.root.1 c.next-watch.ensures.births c.note_at.ensures c.note_to.ensures

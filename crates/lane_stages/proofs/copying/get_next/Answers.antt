@@ -42,11 +42,11 @@ returns-in-Did c =
     ∙ ap (λ (bs : List ℕ). length bs) c.deref_mut.ensures.value in
     let whole = with_items_is first.got bytes (long ∙ sym first.got.ok.0) in
     let it = c.note_at.ensures ∙ ap (λ (bs : List ℕ). Note.At (Root root.place) did.number (Did.Get first.part.offset
-      bs))
+    bs))
     (c.of-got.ensures ∙ whole) in
     copy_got pool old new did.ensures.seat did.ensures.same c.args.goal.0 c.args.goal.1 first c.args.later
     c.requires.may did.number bytes long did.ensures.did c.note_at.result it c.args.log.now c.write_note.new.log
-      c.write_note.ensures
+    c.write_note.ensures
     c.copy_from_slice.new.self (c.copy_from_slice.ensures.items ∙ c.deref.ensures.value ∙ whole)
 
 pub returns-in-Held : goal.returns-in-Held

@@ -40,12 +40,12 @@ returns-in-Some c =
     ∙ ap (λ (bs : List ℕ). length bs) c.deref_mut.ensures.value in
     let whole = with_items_is first.bytes bytes (long ∙ sym first.bytes.ok.0) in
     let it = c.note_at.ensures ∙ ap (λ (bs : List ℕ). Note.At (Root root.place) did.number (Did.Get first.part.offset
-      bs))
+    bs))
     (c.of-bytes.ensures ∙ whole) in
     let all = c.append.ensures.items ∙ ap (λ (bs : List ℕ). c.args.got.items ++ bs) (c.deref.ensures.value ∙ whole) in
     get_more pool old new did.ensures.seat did.ensures.same first c.args.later c.args.got c.requires.may did.number
     bytes long did.ensures.did c.note_at.result it c.args.log.now c.write_note.new.log c.write_note.ensures
-      c.append.new.bytes all
+    c.append.new.bytes all
     c.append.ensures.room c.in-Some.first c.in-Some.later c.in-Some.ensures
 
 pub returns-in-None : goal.returns-in-None
@@ -56,12 +56,12 @@ returns-in-None c =
     ∙ ap (λ (bs : List ℕ). length bs) c.deref_mut.ensures.value in
     let whole = with_items_is first.bytes bytes (long ∙ sym first.bytes.ok.0) in
     let it = c.note_at.ensures ∙ ap (λ (bs : List ℕ). Note.At (Root root.place) did.number (Did.Get first.part.offset
-      bs))
+    bs))
     (c.of-bytes.ensures ∙ whole) in
     let all = c.append.ensures.items ∙ ap (λ (bs : List ℕ). c.args.got.items ++ bs) (c.deref.ensures.value ∙ whole) in
     get_last pool old new did.ensures.seat did.ensures.same first c.args.later c.args.got c.requires.may did.number
     bytes long did.ensures.did c.note_at.result it c.args.log.now c.write_note.new.log c.write_note.ensures
-      c.append.new.bytes all
+    c.append.new.bytes all
     c.append.ensures.room c.in-None.ensures
 
 pub returns-in-Held : goal.returns-in-Held

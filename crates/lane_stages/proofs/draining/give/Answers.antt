@@ -19,7 +19,7 @@ returns-in-Did c =
     let did = c.in-Did in
     gave_one c.args.pool.now c.args.seat.now c.give.new.seat did.ensures.seat did.ensures.same c.args.kind c.args.class
     did.number c.note_at.result c.args.log.now c.write_note.new.log c.write_note.ensures c.args.left c.args.region
-      c.after.result
+    c.after.result
     c.requires.may did.ensures.did c.after.ensures.next c.after.ensures.hand c.after.ensures.read c.note_at.ensures
 
 pub returns-in-Held : goal.returns-in-Held

@@ -21,11 +21,11 @@ pub returns-in-Did : goal.returns-in-Did
 returns-in-Did c =
     let old = c.args.seat.now in let did = c.in-Did in let class = c.args.class in
     let it : c.note_at.result ≡ Note.At (Cache (lane_of old) class) did.number (Did.Shed did.region.id) =
-      c.note_at.ensures
+    c.note_at.ensures
     ∙ (λ i. Note.At (Cache (c.lane_of.ensures.lane i) class) did.number (Did.Shed did.region.id)) in
     shed_one c.args.pool.now old c.shed.new.seat did.ensures.seat did.ensures.same c.args.kind class did.number
     c.note_at.result c.args.log.now c.write_note.new.log c.write_note.ensures c.args.left did.region c.requires.may
-      did.ensures.did
+    did.ensures.did
     did.ensures.region it
 
 pub returns-in-Held : goal.returns-in-Held

@@ -21,7 +21,7 @@ returns-in-Did-default-Some c =
     (λ r. HoldsRegion pool new r × (r.id.owner ≡ lane_of old) × (r.id.class ≡ class))) did.field-1-is
     did.ensures.region in
     let it : c.note_at.result ≡ Note.At (Cache (lane_of old) class) did.number (Did.Hit did.region.id) =
-      c.note_at.ensures
+    c.note_at.ensures
     ∙ (λ i. Note.At (Cache (c.lane_of.ensures.lane i) class) did.number (Did.Hit did.region.id)) in
     cache_hit pool old new want.root want.size class did.ensures.seat did.ensures.same c.requires.may did.number
     c.note_at.result c.args.log.now c.write_note.new.log c.write_note.ensures did.region noted holds.0 holds.2 it

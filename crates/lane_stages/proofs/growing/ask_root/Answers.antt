@@ -25,7 +25,7 @@ returns-in-Did-default-Enough c =
     did.ensures.knows in
     room_enough pool old new root want.size want.class did.ensures.seat did.ensures.same c.requires.may c.requires.class
     did.number c.note_at.result log c.write_note.new.log c.write_note.ensures did.capacity (noted, c.note_at.ensures)
-      le knows
+    le knows
 
 pub returns-in-Did-default-Extended : goal.returns-in-Did-default-Extended
 returns-in-Did-default-Extended c =

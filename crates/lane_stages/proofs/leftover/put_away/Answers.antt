@@ -26,7 +26,7 @@ returns-in-Did-default-Kept c =
     did.field-1-is did.ensures.did in
     kept_there pool old new want.root want.size want.class did.ensures.seat did.ensures.same c.args.capacity region
     c.requires.may did.number c.note_at.result c.args.log.now c.write_note.new.log c.write_note.ensures noted
-      c.note_at.ensures
+    c.note_at.ensures
 
 pub returns-in-Did-default-Back : goal.returns-in-Did-default-Back
 returns-in-Did-default-Back c =

@@ -101,7 +101,7 @@ returns-in-Ended c =
     let may = subst (λ (e : Option Ending). MayRelease pool old cs (stage_of e left)) c.in_default.is c.requires.may in
     let did = subst (λ (r : Release). IsReleasedAs r root old new) c.in-Ended.is call.ensures.did in
     let adds = subst (λ (n : Note). HasWritten log later (n ∷ [])) c.note_to-in-Ended.ensures
-      c.write_note-in-Ended.ensures in
+    c.write_note-in-Ended.ensures in
     subst (λ (p : Option Ending × Releasing). HasReleased pool old new cs ds log later (stage_of p.0 left) (More p.1))
     (λ i. (sym c.in_default.is i, sym c.ended_with-in-Ended.ensures i))
     (part_ended pool old new cs ds left after root may c.in-Some-next_counted.ensures c.take.ensures.counts

@@ -17,7 +17,7 @@ pub returns-in-Did : goal.returns-in-Did
 returns-in-Did c =
     given_back c.args.pool.now c.args.seat.now c.give.new.seat c.in-Did.ensures.seat c.in-Did.ensures.same
     c.in-Did.number c.note_at.result c.args.log.now c.write_note.new.log c.write_note.ensures c.args.handle
-      c.args.region
+    c.args.region
     c.requires.may c.in-Did.ensures.did c.note_at.ensures
 
 pub returns-in-Held : goal.returns-in-Held

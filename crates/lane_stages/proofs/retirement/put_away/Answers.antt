@@ -24,7 +24,7 @@ returns-in-Did-default-Kept c =
     let noted = subst (λ (x : Put). IsNoted pool old new (Cache id.owner id.class) did.number (plain (was_put id x)))
     did.field-1-is did.ensures.did in
     kept_there pool old new did.ensures.seat did.ensures.same did.number c.note_at.result c.args.log.now
-      c.write_note.new.log
+    c.write_note.new.log
     c.write_note.ensures c.args.handle c.args.region c.requires.may noted c.note_at.ensures
 
 pub returns-in-Did-default-Back : goal.returns-in-Did-default-Back

@@ -21,8 +21,7 @@ returns-in-Ok-clause-allocates c =
 
 pub returns-in-Err-clause-stopped : goal.returns-in-Err-clause-stopped
 returns-in-Err-clause-stopped c =
-    let pool = c.args.pool.now in let old = c.args.seat.now in let e = c.in-Err.ensures in
-    (
+    let pool = c.args.pool.now in let old = c.args.seat.now in let e = c.in-Err.ensures in (
       e.kept,
       e.back.0,
       e.back.1,

@@ -15,16 +15,17 @@ returns-in-Start g c =
     λ first works stopped.
     (let e = c.allocate.ensures in
     all_anew c.args.pool.now c.args.size c.args.class first c.args.seat.now c.allocate.new.seat stopped.later.same
-    stopped.came c.allocate.result
-    (record {
-      proceeds = e.proceeds;
-      root = e.root;
-      place = e.place;
-      born = e.born;
-      later = e.later;
-      reads = e.allots;
-    },
-    e.worn))
+    stopped.came c.allocate.result (
+      record {
+        proceeds = e.proceeds;
+        root = e.root;
+        place = e.place;
+        born = e.born;
+        later = e.later;
+        reads = e.allots;
+      },
+      e.worn,
+    ))
 
 pub returns-in-NoHandle : goal.returns-in-NoHandle
 returns-in-NoHandle g c =

@@ -63,7 +63,7 @@ returns-clause-changed g c =
       | else-not-is_nothing w ↦ rw w.self-inside-is (settles_none pool old is)
     ] in
     let from : (new : Member) → Does pool 4 change None mid new
-        → HasChanged 4 (once_less c.args.buffer.at.root last) None c.args.self.now new =
+    → HasChanged 4 (once_less c.args.buffer.at.root last) None c.args.self.now new =
     λ new does.
     subst (λ (r : RootId). HasChanged 4 (once_less r last) None c.args.self.now new) c.root.ensures
     (subst (λ (m : Member). HasChanged 4 change None m new) c.self.view_is

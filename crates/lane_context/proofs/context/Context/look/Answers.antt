@@ -70,7 +70,7 @@ returns c = λ s state.
     (look_turn pool c.args.name old start mid new c.requires refl c.look-count.ensures.same c.look-count.ensures.seat
     c.in-Ok-View.view ok.0 ok.1 c.look-count.result c.look-count.ensures.did
     (subst (λ (n : Note). HasNoted start mid (n ∷ [])) c.note_to.ensures c.note.ensures) c.answer-2.ensures.replied s
-      state)
+    state)
 
 pub returns-in-Ok-Composite : goal.returns-in-Ok-Composite
 returns-in-Ok-Composite c = λ s state.

@@ -49,7 +49,7 @@ add-requires-clause-place g c =
     let old = c.args.self.now in let start : Context = record old { seat = c.fetch.new.seat } in let mid =
     c.note.new.self in let got = c.in-Got in
     let noted = noted_there start mid c.args.lane c.lane_of.result (lane_of old.seat) got.number got.parcel
-      c.note_at.result
+    c.note_at.result
     c.note_at.ensures c.lane_of.ensures.lane c.note.ensures in
     fetched_place c.args.pool.now c.args.fresh c.args.lane old start mid mid c.requires.may refl got.ensures.same
     got.ensures.seat got.number got.parcel got.ensures.got noted c.in-Some.view c.in-Some.is got.ensures.place
@@ -59,7 +59,7 @@ add-requires-clause-alone g c = λ other at counts.
     let old = c.args.self.now in let start : Context = record old { seat = c.fetch.new.seat } in let mid =
     c.note.new.self in let got = c.in-Got in
     let noted = noted_there start mid c.args.lane c.lane_of.result (lane_of old.seat) got.number got.parcel
-      c.note_at.result
+    c.note_at.result
     c.note_at.ensures c.lane_of.ensures.lane c.note.ensures in
     fetched_alone c.args.pool.now c.args.fresh c.args.lane old start mid mid c.requires.may refl got.ensures.same
     got.ensures.seat got.number got.parcel got.ensures.got noted c.in-Some.view c.in-Some.is other at counts
@@ -69,7 +69,7 @@ add-requires-clause-few g c =
     let old = c.args.self.now in let start : Context = record old { seat = c.fetch.new.seat } in let mid =
     c.note.new.self in let got = c.in-Got in
     let noted = noted_there start mid c.args.lane c.lane_of.result (lane_of old.seat) got.number got.parcel
-      c.note_at.result
+    c.note_at.result
     c.note_at.ensures c.lane_of.ensures.lane c.note.ensures in
     fetched_few c.args.pool.now c.args.fresh c.args.lane old start mid mid c.requires.may refl got.ensures.same
     got.ensures.seat got.number got.parcel got.ensures.got noted c.in-Some.view.root
@@ -85,7 +85,7 @@ returns-in-Some g c = λ s state.
     record old { seat = c.fetch.new.seat } in let mid =
     c.note.new.self in let new = c.answer.new.self in let got = c.in-Got in let v : ViewData = c.in-Some.view in
     let noted = noted_there start mid c.args.lane c.lane_of.result (lane_of old.seat) got.number got.parcel
-      c.note_at.result
+    c.note_at.result
     c.note_at.ensures c.lane_of.ensures.lane c.note.ensures in
     subst (λ (t : Turn). HasTurned pool old new s (Command.Recv c.args.fresh c.args.lane) Ready t)
     (sym c.answer.ensures.ready)
@@ -103,7 +103,7 @@ returns-in-None g c = λ s state.
     record old { seat = c.fetch.new.seat } in let mid =
     c.note.new.self in let new = c.answer-in-None.new.self in let got = c.in-Got in
     let noted = noted_there start mid c.args.lane c.lane_of.result (lane_of old.seat) got.number got.parcel
-      c.note_at.result
+    c.note_at.result
     c.note_at.ensures c.lane_of.ensures.lane c.note.ensures in
     subst (λ (t : Turn). HasTurned pool old new s (Command.Recv c.args.fresh c.args.lane) Ready t)
     (sym c.answer-in-None.ensures.ready)

@@ -79,7 +79,7 @@ returns-in-Kept c = λ s state.
     (subst (λ (r : Release). IsReleasedAs r view.root old.seat call.new.seat) c.in-Kept.is call.ensures.did)
     (record { counts = c.take.ensures.counts; places = c.take.ensures.places })
     (subst (λ (n : Note). HasNoted start mid (n ∷ [])) c.note_to.ensures c.note.ensures) c.answer.ensures.replied s
-      state)
+    state)
 
 pub returns-in-Ended : goal.returns-in-Ended
 returns-in-Ended c = λ s state.

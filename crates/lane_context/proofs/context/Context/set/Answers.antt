@@ -25,7 +25,7 @@ returns-in-Did c =
     let start : Context = record old { seat = c.write.new.seat } in let did = c.in-Did in
     let noted = subst (λ (n : Note). HasNoted start mid (n ∷ []))
     (c.note_at.ensures ∙ ap (λ (bytes : List ℕ). Note.At (Root reach.root.place) did.number (Did.Set reach.offset
-      bytes))
+    bytes))
     c.of-bytes.ensures) c.note.ensures in
     subst (λ (t : Turn). AccessTurns pool old new (Set reach c.args.bytes) t) (sym c.answer.ensures.ready)
     (set_turn pool old start mid new c.requires.may.context c.requires.may.asked refl did.ensures.same did.ensures.seat

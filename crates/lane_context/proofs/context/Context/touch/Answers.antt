@@ -66,7 +66,7 @@ returns-in-Did c = λ s state.
     (touch_turn pool c.args.name old start mid new c.requires refl did.ensures.same did.ensures.seat c.in-Ok.view.now.at
     ok.0 ok.1 did.number did.ensures.did
     (subst (λ (n : Note). HasNoted start mid (n ∷ [])) c.note_at.ensures c.note.ensures) c.answer.ensures.replied s
-      state)
+    state)
 
 pub returns-in-Held : goal.returns-in-Held
 returns-in-Held c = λ s state.
