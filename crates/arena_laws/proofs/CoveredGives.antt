@@ -11,7 +11,7 @@ use Rattle.size_classes.proofs.SmallClasses.{page-some}
 use Rattle.pool_law.specs.declared.id.RegionId.{RegionId}
 use Rattle.pool_law.specs.Same.{same_taking}
 use Rattle.pool_law.specs.Chunks.{Use, Whole, Sub}
-use Rattle.pool_law.specs.Arenas.{Arena, chunk_at, with_elements, with_front, front_of, without_spot, run_given, is_alone, idle_given, element_given, small_given, given_place, give}
+use Rattle.pool_law.specs.Arenas.{Arena, chunk_at, with_elements, with_front, front_of, without_subpage, run_given, is_alone, idle_given, element_given, small_given, given_place, give}
 use Rattle.arena_laws.specs.Slots.{IsElement, IsSlot, ElementsFit}
 use Rattle.arena_laws.specs.Covered.{EachUsed, IsTakenAt, IsCovered}
 use Rattle.pool_law.proofs.ListLemmas.{slice_get-set_same, slice_get-set_other, slice_get-below}
@@ -136,7 +136,7 @@ pub idle_given-used : (g : Geometry) (a : Arena) → Sounds g a → Wholes g a �
     → (class c page m : ℕ) (f : Elements) → UsedAt a c page m (Sub class f) →
     EachUsed g (idle_given g a class c page) P
 idle_given-used g a sound whole P used class c page m f here =
-    let b : Arena = with_front a class (without_spot c page (front_of a class)) in
+    let b : Arena = with_front a class (without_subpage c page (front_of a class)) in
     cond_both (is_alone (front_of a class)) a (run_given g b c page) (λ x. EachUsed g x P)
     (λ _. used)
     (λ _. run_given-used g b sound whole P (record { runs = used.runs; elements = used.elements }) c page m

@@ -9,7 +9,7 @@ use Rattle.size_classes.specs.Elements.{Elements, new_elements, next_element, wi
 use Rattle.size_classes.proofs.Runs.{subpage_pages-least}
 use Rattle.pool_law.specs.declared.id.RegionId.{RegionId}
 use Rattle.pool_law.specs.Chunks.{Whole, Sub}
-use Rattle.pool_law.specs.Arenas.{Arena, Spotted, new_arena, chunk_at, with_run, opened, first_unused, take_run, elements_at, with_elements, element_taken, take_element, with_front, front_of, without_spot, with_subpage, take_small, take_class, noted_taking, region_of, take}
+use Rattle.pool_law.specs.Arenas.{Arena, Yielded, new_arena, chunk_at, with_run, opened, first_unused, take_run, elements_at, with_elements, element_taken, take_element, with_front, front_of, without_subpage, with_subpage, take_small, take_class, noted_taking, region_of, take}
 use Rattle.arena_laws.specs.Slots.{ArenaHolds, IsOne}
 use Rattle.arena_laws.specs.Covered.{EachUsed, IsTakenAt, IsCovered}
 use Rattle.pool_law.proofs.ListLemmas.{slice_get-set_other}
@@ -86,7 +86,7 @@ module _ (g : Geometry) (number : ℕ) (P : ℕ → ℕ → Type 0) where
   opened-both a c h unused = (opened-holds g number a c h.0 unused, opened-used g a c P h.1 unused)
 
   -- a run that is taken as a whole
-  pub take_run-used : (a : Arena) (pages : ℕ) → HoldsUsed a → (t : Spotted) → take_run g a pages Whole ≡ Some t
+  pub take_run-used : (a : Arena) (pages : ℕ) → HoldsUsed a → (t : Yielded) → take_run g a pages Whole ≡ Some t
       → EachUsed g t.2 (OrAt P t.0 (page_of g * t.1))
   take_run-used a pages h t e =
       take_run-by g pages Whole HoldsUsed opened-both (λ u. EachUsed g u.2 (OrAt P u.0 (page_of g * u.1)))
@@ -100,7 +100,7 @@ module _ (g : Geometry) (number : ℕ) (P : ℕ → ℕ → Type 0) where
       a h t e
 
   -- a run that is taken for a new subpage, of which nothing is out
-  pub take_subpage-used : (a : Arena) (pages class count : ℕ) → HoldsUsed a → (t : Spotted)
+  pub take_subpage-used : (a : Arena) (pages class count : ℕ) → HoldsUsed a → (t : Yielded)
       → take_run g a pages (Sub class (new_elements count)) ≡ Some t → EachUsed g t.2 P
   take_subpage-used a pages class count h t e =
       take_run-by g pages (Sub class (new_elements count)) HoldsUsed opened-both (λ u. EachUsed g u.2 P)
@@ -147,12 +147,12 @@ module _ (g : Geometry) (number : ℕ) (P : ℕ → ℕ → Type 0) where
       let b : Arena = with_elements a c page class (with_out e k) in
       let used : EachUsed g b (OrAt P c (page_of g * page + k * size_at class)) =
       with_elements-used a h class c page m k e here in
-      cond_both (is_full (with_out e k)) (with_front b class (without_spot c page (front_of b class))) b
+      cond_both (is_full (with_out e k)) (with_front b class (without_subpage c page (front_of b class))) b
       (λ x. EachUsed g x (OrAt P c (page_of g * page + k * size_at class)))
       (λ _. record { runs = used.runs; elements = used.elements })
       (λ _. used)
 
-  pub take_element-used : (a : Arena) → HoldsUsed a → (class : ℕ) (spot : ℕ × ℕ) (t : Spotted)
+  pub take_element-used : (a : Arena) → HoldsUsed a → (class : ℕ) (spot : ℕ × ℕ) (t : Yielded)
       → take_element g a class spot ≡ Some t → EachUsed g t.2 (OrAt P t.0 t.1)
   take_element-used a h class spot t e =
       outer (elements_at a class spot.0 spot.1) (λ f. elements_at-is a class spot.0 spot.1 f) e
@@ -173,13 +173,13 @@ module _ (g : Geometry) (number : ℕ) (P : ℕ → ℕ → Type 0) where
           let u : (m : ℕ) × Begins spot.1 (Used m (Sub class f)) (chunk_at a spot.0) = found f refl in
           inner f u.0 u.1 (next_element f) is
 
-  pub take_small-used : (a : Arena) → HoldsUsed a → (class : ℕ) (spots : List (ℕ × ℕ)) (t : Spotted)
-      → take_small g a class spots ≡ Some t → EachUsed g t.2 (OrAt P t.0 t.1)
-  take_small-used a h class (spot ∷ spots) t e = take_element-used a h class spot t e
+  pub take_small-used : (a : Arena) → HoldsUsed a → (class : ℕ) (subpages : List (ℕ × ℕ)) (t : Yielded)
+      → take_small g a class subpages ≡ Some t → EachUsed g t.2 (OrAt P t.0 t.1)
+  take_small-used a h class (spot ∷ subpages) t e = take_element-used a h class spot t e
   take_small-used a h class [] t e =
       go (take_run g a (subpage_pages g class) (Sub class (new_elements (element_count g class)))) (λ u is. both u is) e
     where
-      both : (u : Spotted) → take_run g a (subpage_pages g class) (Sub class (new_elements (element_count g class)))
+      both : (u : Yielded) → take_run g a (subpage_pages g class) (Sub class (new_elements (element_count g class)))
           ≡ Some u → HoldsUsed (with_subpage class u)
       both u is =
           let run : RunTaken g number a u.2 u.0 u.1 (subpage_pages g class)
@@ -198,13 +198,13 @@ module _ (g : Geometry) (number : ℕ) (P : ℕ → ℕ → Type 0) where
             record { runs = used.runs; elements = used.elements },
           )
 
-      go : (x : Option Spotted) → ((u : Spotted) → x ≡ Some u → HoldsUsed (with_subpage class u))
+      go : (x : Option Yielded) → ((u : Yielded) → x ≡ Some u → HoldsUsed (with_subpage class u))
           → option_and_then (λ u. take_element g (with_subpage class u) class (u.0, u.1)) x ≡ Some t
           → EachUsed g t.2 (OrAt P t.0 t.1)
       go None found is = absurd (cc is)
       go (Some u) found is = take_element-used (with_subpage class u) (found u refl) class (u.0, u.1) t is
 
-  pub take_class-used : (a : Arena) → HoldsUsed a → (class : ℕ) (t : Spotted) → take_class g a class ≡ Some t
+  pub take_class-used : (a : Arena) → HoldsUsed a → (class : ℕ) (t : Yielded) → take_class g a class ≡ Some t
       → EachUsed g t.2 (OrAt P t.0 t.1)
   take_class-used a h class t e =
       cond_both (is_small g class) (take_small g a class (front_of a class))
@@ -214,7 +214,7 @@ module _ (g : Geometry) (number : ℕ) (P : ℕ → ℕ → Type 0) where
       (λ _ is. go (take_run g a (pages_of g class) Whole) (λ u. take_run-used a (pages_of g class) h u) is)
       e
     where
-      go : (x : Option Spotted) → ((u : Spotted) → x ≡ Some u → EachUsed g u.2 (OrAt P u.0 (page_of g * u.1)))
+      go : (x : Option Yielded) → ((u : Yielded) → x ≡ Some u → EachUsed g u.2 (OrAt P u.0 (page_of g * u.1)))
           → option_map (λ u. (u.0, page_of g * u.1, u.2)) x ≡ Some t → EachUsed g t.2 (OrAt P t.0 t.1)
       go None found is = absurd (cc is)
       go (Some u) found is =
@@ -231,7 +231,7 @@ take-covered g number a class owner holds covered t e =
           class u is,
     )) e
   where
-    made : (u : Spotted) → u.2.out ≡ a.out → EachUsed g u.2 (OrAt (IsTakenAt a.out) u.0 u.1)
+    made : (u : Yielded) → u.2.out ≡ a.out → EachUsed g u.2 (OrAt (IsTakenAt a.out) u.0 u.1)
         → IsCovered g (noted_taking number class owner u).1
     made u same used =
         let region : RegionId = region_of number class owner (u.2.takings + 1) u.0 u.1 in
@@ -250,7 +250,7 @@ take-covered g number a class owner holds covered t e =
         used in
         record { runs = all.runs; elements = all.elements }
 
-    go : (x : Option Spotted) → ((u : Spotted) → x ≡ Some u
+    go : (x : Option Yielded) → ((u : Yielded) → x ≡ Some u
         → (u.2.out ≡ a.out) × EachUsed g u.2 (OrAt (IsTakenAt a.out) u.0 u.1))
         → option_map (noted_taking number class owner) x ≡ Some t → IsCovered g t.1
     go None found is = absurd (cc is)

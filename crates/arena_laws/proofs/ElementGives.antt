@@ -13,7 +13,7 @@ use Rattle.std.proofs.Math.Nat.{div-lt_iff_lt-mul, mul-add-div, mul-div_cancel_l
 use Rattle.size_classes.proofs.SmallClasses.{page-some}
 use Rattle.pool_law.specs.declared.id.RegionId.{RegionId}
 use Rattle.pool_law.specs.Chunks.{Chunk, Whole, Sub, RemembersFree}
-use Rattle.pool_law.specs.Arenas.{Arena, chunk_at, elements_in, elements_at, with_elements, with_front, front_of, without_spot, run_given, is_alone, idle_given, element_given, small_given, given_place}
+use Rattle.pool_law.specs.Arenas.{Arena, chunk_at, elements_in, elements_at, with_elements, with_front, front_of, without_subpage, run_given, is_alone, idle_given, element_given, small_given, given_place}
 use Rattle.arena_laws.specs.Slots.{IsOne}
 use Rattle.arena_laws.specs.Slots.{IsWholeRun, IsElement, IsSlot, IsSound, EachOf, EachTwo, BeginElsewhere}
 use Rattle.pool_law.proofs.ListLemmas.{slice_get-set_same, slice_get-set_other, slice_get-below, slice_set-length}
@@ -114,9 +114,10 @@ idle-elsewhere g chunk sound page m class f here idle s (inr y) same =
     let elements : y.elements ≡ f = cc run in
     none_true-is f.out y.at idle (subst (λ h. slice_get h.out y.at ≡ Some true) elements y.out)
 
-pub Kept-fronts : (g : Geometry) (a b : Arena) (class : ℕ) (spots : List (ℕ × ℕ)) (P : RegionId → Type 0) → Kept g a b P
-    → Kept g a (with_front b class spots) P
-Kept-fronts g a b class spots P k = record { sound = k.sound; whole = k.whole; takings = k.takings; slots = k.slots }
+pub Kept-fronts : (g : Geometry) (a b : Arena) (class : ℕ) (subpages : List (ℕ × ℕ)) (P : RegionId → Type 0)
+    → Kept g a b P
+    → Kept g a (with_front b class subpages) P
+Kept-fronts g a b class subpages P k = record { sound = k.sound; whole = k.whole; takings = k.takings; slots = k.slots }
 
 -- an idle subpage may give its run back
 pub idle_given-is : (g : Geometry) (a b : Arena) (class c page m : ℕ) (f : Elements) (P : RegionId → Type 0)
@@ -134,7 +135,7 @@ idle_given-is g a b class c page m f P k here idle =
     })
   where
     d : Arena
-    d = with_front b class (without_spot c page (front_of b class))
+    d = with_front b class (without_subpage c page (front_of b class))
 
     last : Kept g d (run_given g d c page)
         (λ s. s.place.chunk ≡ c → Elsewhere g (chunk_at b c) (k.sound c) page m (Sub class f) here s)

@@ -10,7 +10,7 @@ use Rattle.std.proofs.Math.Nat.{le-div_iff_mul-le, mul_comm}
 use Rattle.size_classes.proofs.Runs.{Begins-run_at, Begins-one, EachRun-Begins, subpage_pages-least}
 use Rattle.pool_law.specs.declared.id.RegionId.{RegionId}
 use Rattle.pool_law.specs.Chunks.{Chunk, Use, Whole, Sub, RemembersFree}
-use Rattle.pool_law.specs.Arenas.{Arena, chunk_at, take_run, elements_in, elements_at, with_elements, element_taken, take_element, with_front, front_of, without_spot, with_subpage, take_small, take_class, noted_taking, region_of, take}
+use Rattle.pool_law.specs.Arenas.{Arena, chunk_at, take_run, elements_in, elements_at, with_elements, element_taken, take_element, with_front, front_of, without_subpage, with_subpage, take_small, take_class, noted_taking, region_of, take}
 use Rattle.arena_laws.specs.Slots.{IsSlot, ElementsFit, IsSound, EachOf, IsLocated, BeginElsewhere, ArenaHolds}
 use Rattle.pool_law.proofs.ListLemmas.{slice_get-set_same, slice_get-set_other, slice_get-below, slice_set-length}
 use Rattle.arena_laws.proofs.ChunkSteps.{Keeps, same_or-not, size_at-pos}
@@ -137,9 +137,9 @@ module _ (g : Geometry) (number class : ℕ) (small : is_small g class ≡ true)
           })
 
   -- the lists of subpages say nothing of where things lie
-  pub same-but_fronts : (a b : Arena) (c offset : ℕ) (spots : List (ℕ × ℕ)) → ClassTaken g number a b c offset class
-      → ClassTaken g number a (with_front b class spots) c offset class
-  same-but_fronts a b c offset spots t =
+  pub same-but_fronts : (a b : Arena) (c offset : ℕ) (subpages : List (ℕ × ℕ)) → ClassTaken g number a b c offset class
+      → ClassTaken g number a (with_front b class subpages) c offset class
+  same-but_fronts a b c offset subpages t =
       record {
         holds = record {
           sound = t.holds.sound;
@@ -167,10 +167,10 @@ module _ (g : Geometry) (number class : ℕ) (small : is_small g class ≡ true)
           let b : Arena = with_elements a spot.0 spot.1 class (with_out f k) in
           let base : ClassTaken g number a b spot.0 (page_of g * spot.1 + k * size_at class) class =
           with_elements-is a holds spot.0 spot.1 m k f here next in
-          cond_both (is_full (with_out f k)) (with_front b class (without_spot spot.0 spot.1 (front_of b class))) b
+          cond_both (is_full (with_out f k)) (with_front b class (without_subpage spot.0 spot.1 (front_of b class))) b
           (λ x. ClassTaken g number a x spot.0 (page_of g * spot.1 + k * size_at class) class)
           (λ _. same-but_fronts a b spot.0 (page_of g * spot.1 + k * size_at class)
-          (without_spot spot.0 spot.1 (front_of b class)) base)
+          (without_subpage spot.0 spot.1 (front_of b class)) base)
           (λ _. base)
 
       inner : (f : Elements) (m : ℕ) → Begins spot.1 (Used m (Sub class f)) (chunk_at a spot.0) → (o : Option ℕ)
@@ -205,9 +205,9 @@ new-subpage g class =
 
 module _ (g : Geometry) (number class : ℕ) where
   pub take_small-is : is_small g class ≡ true → (a : Arena) → ArenaHolds g number a
-      → (spots : List (ℕ × ℕ)) (t : ℕ × ℕ × Arena) → take_small g a class spots ≡ Some t
+      → (subpages : List (ℕ × ℕ)) (t : ℕ × ℕ × Arena) → take_small g a class subpages ≡ Some t
       → ClassTaken g number a t.2 t.0 t.1 class
-  take_small-is small a holds (spot ∷ spots) t e = take_element-is g number class small a holds spot t e
+  take_small-is small a holds (spot ∷ subpages) t e = take_element-is g number class small a holds spot t e
   take_small-is small a holds [] t e =
       outer (take_run g a (subpage_pages g class) (Sub class (new_elements (element_count g class))))
       (λ u. take_run-is g number (subpage_pages g class) (Sub class (new_elements (element_count g class)))

@@ -2,8 +2,8 @@
 use Rattle.std.proofs.Common.{ne_eqb, eq-eqb, ⊎_elim, ◌≡◌, ◌≢◌, inl, inr, ℕ, ◌<◌, List, [], ◌∷◌, length, refl, sym, ap, subst, Bool, true, false, ◌∙◌}
 use Rattle.std.specs.Prelude.{◌⊎◌, ◌==◌, ◌&&◌, ◌||◌, not, if◌then◌else◌, unwrap_or}
 use Rattle.std.proofs.lemmas.Bool.{cond_both, or_parts}
-use Rattle.pool_law.specs.Arenas.{Arena, with_front, front_of, without_spot}
-use Rattle.arena_laws.specs.Orderly.{has_spot, SpotsDiffer}
+use Rattle.pool_law.specs.Arenas.{Arena, with_front, front_of, without_subpage}
+use Rattle.arena_laws.specs.Orderly.{has_subpage, SubpagesDiffer}
 use Rattle.pool_law.proofs.ListLemmas.{slice_get-set_same, slice_get-set_other}
 use Rattle.arena_laws.proofs.ChunkSteps.{same_or-not}
 
@@ -42,106 +42,119 @@ test-is c page d p e =
 
 -- ---- one list
 
-pub spot-first : (c page : ℕ) (spots : List (ℕ × ℕ)) → has_spot c page ((c, page) ∷ spots) ≡ true
-spot-first c page spots = ap (λ b. b || has_spot c page spots) (test-here c page)
+pub spot-first : (c page : ℕ) (subpages : List (ℕ × ℕ)) → has_subpage c page ((c, page) ∷ subpages) ≡ true
+spot-first c page subpages = ap (λ b. b || has_subpage c page subpages) (test-here c page)
 
-pub spot-later : (c page d p : ℕ) (spots : List (ℕ × ℕ)) → (Here c page d p → ⊥)
-    → has_spot d p ((c, page) ∷ spots) ≡ has_spot d p spots
-spot-later c page d p spots apart = ap (λ b. b || has_spot d p spots) (test-apart c page d p apart)
+pub spot-later : (c page d p : ℕ) (subpages : List (ℕ × ℕ)) → (Here c page d p → ⊥)
+    → has_subpage d p ((c, page) ∷ subpages) ≡ has_subpage d p subpages
+spot-later c page d p subpages apart = ap (λ b. b || has_subpage d p subpages) (test-apart c page d p apart)
 
-pub without-same : (c page : ℕ) (spots : List (ℕ × ℕ)) → has_spot c page (without_spot c page spots) ≡ false
+pub without-same : (c page : ℕ) (subpages : List (ℕ × ℕ)) → has_subpage c page (without_subpage c page subpages) ≡ false
 without-same c page [] = refl
-without-same c page (s ∷ spots) = go ((s.0 == c) && (s.1 == page)) refl (without-same c page spots)
+without-same c page (s ∷ subpages) = go ((s.0 == c) && (s.1 == page)) refl (without-same c page subpages)
   where
-    go : (b : Bool) → ((s.0 == c) && (s.1 == page)) ≡ b → has_spot c page (without_spot c page spots) ≡ false
-        → has_spot c page (without_spot c page (s ∷ spots)) ≡ false
+    go : (b : Bool) → ((s.0 == c) && (s.1 == page)) ≡ b → has_subpage c page (without_subpage c page subpages) ≡ false
+        → has_subpage c page (without_subpage c page (s ∷ subpages)) ≡ false
     go true is rest =
-        ap (λ b. has_spot c page (if not b then s ∷ without_spot c page spots else without_spot c page spots)) is ∙ rest
+        ap (λ b. has_subpage c page
+        (if not b then s ∷ without_subpage c page subpages else without_subpage c page subpages)) is ∙ rest
     go false is rest =
-        ap (λ b. has_spot c page (if not b then s ∷ without_spot c page spots else without_spot c page spots)) is
-        ∙ ap (λ b. b || has_spot c page (without_spot c page spots)) is
+        ap (λ b. has_subpage c page
+        (if not b then s ∷ without_subpage c page subpages else without_subpage c page subpages)) is
+        ∙ ap (λ b. b || has_subpage c page (without_subpage c page subpages)) is
         ∙ rest
 
-pub without-other : (c page d p : ℕ) (spots : List (ℕ × ℕ)) → (Here c page d p → ⊥)
-    → has_spot d p (without_spot c page spots) ≡ has_spot d p spots
+pub without-other : (c page d p : ℕ) (subpages : List (ℕ × ℕ)) → (Here c page d p → ⊥)
+    → has_subpage d p (without_subpage c page subpages) ≡ has_subpage d p subpages
 without-other c page d p [] apart = refl
-without-other c page d p (s ∷ spots) apart =
-    go ((s.0 == c) && (s.1 == page)) refl (without-other c page d p spots apart)
+without-other c page d p (s ∷ subpages) apart =
+    go ((s.0 == c) && (s.1 == page)) refl (without-other c page d p subpages apart)
   where
-    go : (b : Bool) → ((s.0 == c) && (s.1 == page)) ≡ b → has_spot d p (without_spot c page spots) ≡ has_spot d p spots
-        → has_spot d p (without_spot c page (s ∷ spots)) ≡ has_spot d p (s ∷ spots)
+    go : (b : Bool) → ((s.0 == c) && (s.1 == page)) ≡ b
+        → has_subpage d p (without_subpage c page subpages) ≡ has_subpage d p subpages
+        → has_subpage d p (without_subpage c page (s ∷ subpages)) ≡ has_subpage d p (s ∷ subpages)
     go true is rest =
         let here : Here c page s.0 s.1 = test-is s.0 s.1 c page is in
-        ap (λ b. has_spot d p (if not b then s ∷ without_spot c page spots else without_spot c page spots)) is
+        ap (λ b. has_subpage d p
+        (if not b then s ∷ without_subpage c page subpages else without_subpage c page subpages)) is
         ∙ rest
-        ∙ sym (ap (λ b. b || has_spot d p spots) (test-apart s.0 s.1 d p (λ h. apart (h.0 ∙ here.0, h.1 ∙ here.1))))
+        ∙ sym (ap (λ b. b || has_subpage d p subpages) (test-apart s.0 s.1 d p (λ h. apart (
+          h.0 ∙ here.0,
+          h.1
+              ∙ here.1,
+        ))))
     go false is rest =
-        ap (λ b. has_spot d p (if not b then s ∷ without_spot c page spots else without_spot c page spots)) is
+        ap (λ b. has_subpage d p
+        (if not b then s ∷ without_subpage c page subpages else without_subpage c page subpages)) is
         ∙ ap (λ b. ((s.0 == d) && (s.1 == p)) || b) rest
 
-pub without-none : (c page d p : ℕ) (spots : List (ℕ × ℕ)) → has_spot d p spots ≡ false
-    → has_spot d p (without_spot c page spots) ≡ false
+pub without-none : (c page d p : ℕ) (subpages : List (ℕ × ℕ)) → has_subpage d p subpages ≡ false
+    → has_subpage d p (without_subpage c page subpages) ≡ false
 without-none c page d p [] none = refl
-without-none c page d p (s ∷ spots) none =
-    let rest : has_spot d p (without_spot c page spots)
-    ≡ false = without-none c page d p spots (or_parts ((s.0 == d) && (s.1 == p)) (has_spot d p spots) none).1 in
-    cond_both (not ((s.0 == c) && (s.1 == page))) (s ∷ without_spot c page spots) (without_spot c page spots)
-    (λ z. has_spot d p z ≡ false)
-    (λ _. ap (λ b. b || has_spot d p (without_spot c page spots))
-    (or_parts ((s.0 == d) && (s.1 == p)) (has_spot d p spots) none).0 ∙ rest)
+without-none c page d p (s ∷ subpages) none =
+    let rest : has_subpage d p (without_subpage c page subpages)
+    ≡ false = without-none c page d p subpages (or_parts ((s.0 == d) && (s.1 == p))
+    (has_subpage d p subpages) none).1 in
+    cond_both (not ((s.0 == c) && (s.1 == page))) (s ∷ without_subpage c page subpages)
+    (without_subpage c page subpages)
+    (λ z. has_subpage d p z ≡ false)
+    (λ _. ap (λ b. b || has_subpage d p (without_subpage c page subpages))
+    (or_parts ((s.0 == d) && (s.1 == p)) (has_subpage d p subpages) none).0 ∙ rest)
     (λ _. rest)
 
-pub without-differ : (c page : ℕ) (spots : List (ℕ × ℕ)) → SpotsDiffer spots → SpotsDiffer (without_spot c page spots)
+pub without-differ : (c page : ℕ) (subpages : List (ℕ × ℕ)) → SubpagesDiffer subpages
+    → SubpagesDiffer (without_subpage c page subpages)
 without-differ c page [] d = tt
-without-differ c page (s ∷ spots) d =
-    cond_both (not ((s.0 == c) && (s.1 == page))) (s ∷ without_spot c page spots) (without_spot c page spots)
-    SpotsDiffer
-    (λ _. (without-none c page s.0 s.1 spots d.0, without-differ c page spots d.1))
-    (λ _. without-differ c page spots d.1)
+without-differ c page (s ∷ subpages) d =
+    cond_both (not ((s.0 == c) && (s.1 == page))) (s ∷ without_subpage c page subpages)
+    (without_subpage c page subpages)
+    SubpagesDiffer
+    (λ _. (without-none c page s.0 s.1 subpages d.0, without-differ c page subpages d.1))
+    (λ _. without-differ c page subpages d.1)
 
 -- ---- the lists of an arena
 
-pub front-same : (a : Arena) (class : ℕ) (spots : List (ℕ × ℕ)) → class < length a.fronts
-    → front_of (with_front a class spots) class ≡ spots
-front-same a class spots below = ap (λ o. unwrap_or o []) (slice_get-set_same a.fronts class spots below)
+pub front-same : (a : Arena) (class : ℕ) (subpages : List (ℕ × ℕ)) → class < length a.fronts
+    → front_of (with_front a class subpages) class ≡ subpages
+front-same a class subpages below = ap (λ o. unwrap_or o []) (slice_get-set_same a.fronts class subpages below)
 
-pub front-other : (a : Arena) (class k : ℕ) (spots : List (ℕ × ℕ)) → k ≢ class
-    → front_of (with_front a class spots) k ≡ front_of a k
-front-other a class k spots other = ap (λ o. unwrap_or o []) (slice_get-set_other a.fronts class k spots other)
+pub front-other : (a : Arena) (class k : ℕ) (subpages : List (ℕ × ℕ)) → k ≢ class
+    → front_of (with_front a class subpages) k ≡ front_of a k
+front-other a class k subpages other = ap (λ o. unwrap_or o []) (slice_get-set_other a.fronts class k subpages other)
 
 -- each list has a subpage once, after one is written
-pub once-with : (a : Arena) (class : ℕ) (spots : List (ℕ × ℕ)) → class < length a.fronts
-    → ((k : ℕ) → SpotsDiffer (front_of a k)) → SpotsDiffer spots →
-    (k : ℕ) → SpotsDiffer (front_of (with_front a class spots) k)
-once-with a class spots below once new k =
+pub once-with : (a : Arena) (class : ℕ) (subpages : List (ℕ × ℕ)) → class < length a.fronts
+    → ((k : ℕ) → SubpagesDiffer (front_of a k)) → SubpagesDiffer subpages →
+    (k : ℕ) → SubpagesDiffer (front_of (with_front a class subpages) k)
+once-with a class subpages below once new k =
     ⊎_elim
-    (λ e. subst (λ j. SpotsDiffer (front_of (with_front a class spots) j)) (sym e)
-    (subst SpotsDiffer (sym (front-same a class spots below)) new))
-    (λ other. subst SpotsDiffer (sym (front-other a class k spots other)) (once k))
+    (λ e. subst (λ j. SubpagesDiffer (front_of (with_front a class subpages) j)) (sym e)
+    (subst SubpagesDiffer (sym (front-same a class subpages below)) new))
+    (λ other. subst SubpagesDiffer (sym (front-other a class k subpages other)) (once k))
     (same_or-not k class)
 
 -- the lists of the other subpages, after one enters or leaves
 pub others-with : (a : Arena) (class c page : ℕ) → class < length a.fronts → (k d p : ℕ)
     → ((k ≡ class) × Here c page d p → ⊥) →
-    has_spot d p (front_of (with_front a class ((c, page) ∷ front_of a class)) k) ≡ has_spot d p (front_of a k)
+    has_subpage d p (front_of (with_front a class ((c, page) ∷ front_of a class)) k) ≡ has_subpage d p (front_of a k)
 others-with a class c page below k d p apart =
     ⊎_elim
-    (λ e. subst (λ j. has_spot d p (front_of (with_front a class ((c, page) ∷ front_of a class)) j)
-    ≡ has_spot d p (front_of a j)) (sym e)
-    (ap (has_spot d p) (front-same a class ((c, page) ∷ front_of a class) below)
+    (λ e. subst (λ j. has_subpage d p (front_of (with_front a class ((c, page) ∷ front_of a class)) j)
+    ≡ has_subpage d p (front_of a j)) (sym e)
+    (ap (has_subpage d p) (front-same a class ((c, page) ∷ front_of a class) below)
     ∙ spot-later c page d p (front_of a class) (λ h. apart (e, h))))
-    (λ other. ap (has_spot d p) (front-other a class k ((c, page) ∷ front_of a class) other))
+    (λ other. ap (has_subpage d p) (front-other a class k ((c, page) ∷ front_of a class) other))
     (same_or-not k class)
 
 pub others-without : (a : Arena) (class c page : ℕ) → class < length a.fronts → (k d p : ℕ)
     → ((k ≡ class) × Here c page d p → ⊥) →
-    has_spot d p (front_of (with_front a class (without_spot c page (front_of a class))) k)
-    ≡ has_spot d p (front_of a k)
+    has_subpage d p (front_of (with_front a class (without_subpage c page (front_of a class))) k)
+    ≡ has_subpage d p (front_of a k)
 others-without a class c page below k d p apart =
     ⊎_elim
-    (λ e. subst (λ j. has_spot d p (front_of (with_front a class (without_spot c page (front_of a class))) j)
-    ≡ has_spot d p (front_of a j)) (sym e)
-    (ap (has_spot d p) (front-same a class (without_spot c page (front_of a class)) below)
+    (λ e. subst (λ j. has_subpage d p (front_of (with_front a class (without_subpage c page (front_of a class))) j)
+    ≡ has_subpage d p (front_of a j)) (sym e)
+    (ap (has_subpage d p) (front-same a class (without_subpage c page (front_of a class)) below)
     ∙ without-other c page d p (front_of a class) (λ h. apart (e, h))))
-    (λ other. ap (has_spot d p) (front-other a class k (without_spot c page (front_of a class)) other))
+    (λ other. ap (has_subpage d p) (front-other a class k (without_subpage c page (front_of a class)) other))
     (same_or-not k class)

@@ -10,9 +10,9 @@ use Rattle.pool_law.specs.declared.id.RegionId.{RegionId}
 use Rattle.pool_law.specs.declared.report.ListName.{ListName}
 use Rattle.pool_law.specs.Chunks.{Chunk, Use, Whole, Sub, usage, RemembersFree}
 use Rattle.pool_law.specs.ChunkLists.{list_of, lists_below, sunk, down_to, settled_down}
-use Rattle.pool_law.specs.Arenas.{Arena, chunk_at, with_elements, with_front, front_of, without_spot, unless_gone, run_given, is_alone, idle_given, element_given, small_given, given_place, give}
+use Rattle.pool_law.specs.Arenas.{Arena, chunk_at, with_elements, with_front, front_of, without_subpage, unless_gone, run_given, is_alone, idle_given, element_given, small_given, given_place, give}
 use Rattle.arena_laws.specs.Slots.{IsSlot}
-use Rattle.arena_laws.specs.Orderly.{has_spot, IsOrderly}
+use Rattle.arena_laws.specs.Orderly.{has_subpage, IsOrderly}
 use Rattle.pool_law.proofs.ListLemmas.{slice_get-set_same, slice_get-below, slice_set-length}
 use Rattle.arena_laws.proofs.ChunkSteps.{Elsewhere}
 use Rattle.arena_laws.proofs.ElementChanges.{StillOut}
@@ -23,7 +23,7 @@ use Rattle.arena_laws.proofs.ArenaSteps.{chunk_at-below}
 use Rattle.arena_laws.proofs.GiveSteps.{Kept, total-here, run_given-is}
 use Rattle.arena_laws.proofs.ElementGives.{with_back-good, small_given-element, whole-page}
 use Rattle.arena_laws.proofs.UsedSteps.{UsedAt, SameBut, with_elements-same, with_elements-new, run_given-same, run_given-unused}
-use Rattle.arena_laws.proofs.OrderlyParts.{Listed, begins-listed, listed-with, Roomy, small-below, OnlyOf, spotted-step, spotted-of, orderly-from, orderly-same}
+use Rattle.arena_laws.proofs.OrderlyParts.{Listed, begins-listed, listed-with, Roomy, small-below, OnlyOf, in_list-step, in_list-of, orderly-from, orderly-same}
 use Rattle.arena_laws.proofs.OrderlySteps.{with_elements-kept, with_elements-listed, with_elements-only, with_elements-before}
 
 -- the lists of chunks once a run came back
@@ -59,13 +59,13 @@ run_given-orderly g a o c page m here =
     (chunk_at-below a c page (Used m Whole) here) refl (begins-listed a c page (Used m Whole) o.listed here) refl
     refl o.listed)
     o.fronts
-    (spotted-step g a (run_given g a c page) 0 c page (spotted-of g a o)
+    (in_list-step g a (run_given g a c page) 0 c page (in_list-of g a o)
     (run_given-same g a o.sound c page m Whole total here)
     (λ k n e u. absurd (cc (same-use n (Sub k e) u)))
     (λ k n e u. absurd (run_given-unused g a o.sound c page m Whole total here n (Sub k e) u))
     (λ k d p _. refl)
     (λ small. (
-      (λ h. let r : Roomy a 0 c page = (spotted-of g a o 0 c page small).0 h in
+      (λ h. let r : Roomy a 0 c page = (in_list-of g a o 0 c page small).0 h in
           absurd (cc (same-use r.pages (Sub 0 r.elements) r.begins))),
       λ r. absurd (run_given-unused g a o.sound c page m Whole total here r.pages (Sub 0 r.elements) r.begins),
     )))
@@ -84,29 +84,29 @@ run_given-orderly g a o c page m here =
 -- a subpage leaves its list, and its run comes back
 pub subpage_given-orderly : (g : Geometry) (a : Arena) → IsOrderly g a → (class c page m : ℕ) (f : Elements)
     → is_small g class ≡ true → UsedAt a c page m (Sub class f) →
-    IsOrderly g (run_given g (with_front a class (without_spot c page (front_of a class))) c page)
+    IsOrderly g (run_given g (with_front a class (without_subpage c page (front_of a class))) c page)
 subpage_given-orderly g a o class c page m f small here =
     orderly-from g b o.order kept.sound kept.whole
     (given-listed g x b c (given_at page (chunk_at a c)) (list_of a.lists c)
     (chunk_at-below a c page (Used m (Sub class f)) here) refl
     (begins-listed a c page (Used m (Sub class f)) o.listed here) refl refl o.listed)
-    (slice_set-length a.fronts class (without_spot c page (front_of a class)) ∙ o.fronts)
-    (spotted-step g a b class c page (spotted-of g a o) (record { back = same.back; keeps = same.keeps })
+    (slice_set-length a.fronts class (without_subpage c page (front_of a class)) ∙ o.fronts)
+    (in_list-step g a b class c page (in_list-of g a o) (record { back = same.back; keeps = same.keeps })
     (λ k n e u. cc (Begins-one (chunk_at a c) page (Used n (Sub k e)) (Used m (Sub class f)) (o.sound c).none_empty u
     here))
     (λ k n e u. absurd (unused n (Sub k e) u))
     (others-without a class c page below)
     (λ _. (
       (λ h. absurd (let both : true ≡ false = sym h
-          ∙ ap (has_spot c page) (front-same a class (without_spot c page (front_of a class)) below)
+          ∙ ap (has_subpage c page) (front-same a class (without_subpage c page (front_of a class)) below)
           ∙ without-same c page (front_of a class) in cc both)),
       λ r. absurd (unused r.pages (Sub class r.elements) r.begins),
     )))
-    (once-with a class (without_spot c page (front_of a class)) below o.once
+    (once-with a class (without_subpage c page (front_of a class)) below o.once
     (without-differ c page (front_of a class) (o.once class)))
   where
     x : Arena
-    x = with_front a class (without_spot c page (front_of a class))
+    x = with_front a class (without_subpage c page (front_of a class))
 
     b : Arena
     b = run_given g x c page
@@ -132,7 +132,7 @@ pub idle_given-orderly : (g : Geometry) (a : Arena) → IsOrderly g a → (class
     IsOrderly g (idle_given g a class c page)
 idle_given-orderly g a o class c page m f small here =
     cond_both (is_alone (front_of a class)) a
-    (run_given g (with_front a class (without_spot c page (front_of a class))) c page) (IsOrderly g)
+    (run_given g (with_front a class (without_subpage c page (front_of a class))) c page) (IsOrderly g)
     (λ _. o)
     (λ _. subpage_given-orderly g a o class c page m f small here)
 
@@ -196,35 +196,35 @@ back_in-orderly g a o class c page m k e small here inside =
         orderly-from g (with_front b class ((c, page) ∷ front_of a class)) o.order kept.sound kept.whole
         (with_elements-listed g a o class c page m e f here as_many good)
         (slice_set-length a.fronts class ((c, page) ∷ front_of a class) ∙ o.fronts)
-        (spotted-step g a (with_front b class ((c, page) ∷ front_of a class)) class c page (spotted-of g a o)
+        (in_list-step g a (with_front b class ((c, page) ∷ front_of a class)) class c page (in_list-of g a o)
         (record { back = same.back; keeps = same.keeps }) before after
         (others-with b class c page below)
         (λ _. (
           (λ _. record { pages = m; elements = f; begins = new; room = room }),
-          λ _. ap (has_spot c page) (front-same b class ((c, page) ∷ front_of a class) below)
+          λ _. ap (has_subpage c page) (front-same b class ((c, page) ∷ front_of a class) below)
               ∙ spot-first c page (front_of a class),
         )))
         (once-with b class ((c, page) ∷ front_of a class) below o.once (absent, o.once class))
       where
-        absent : has_spot c page (front_of a class) ≡ false
+        absent : has_subpage c page (front_of a class) ≡ false
         absent =
             ⊎_elim
-            (λ yes. let r : Roomy a class c page = (spotted-of g a o class c page small).0 yes in
+            (λ yes. let r : Roomy a class c page = (in_list-of g a o class c page small).0 yes in
             let elements : r.elements ≡ e = cc
             (with_elements-before g a o class c page m e f here as_many good r.pages (Sub class r.elements)
             r.begins) in
             absurd (let both : true ≡ false = sym full ∙ ap is_full (sym elements) ∙ r.room in cc both))
             (λ no. no)
-            (cases_Bool (has_spot c page (front_of a class)))
+            (cases_Bool (has_subpage c page (front_of a class)))
 
     room_case : is_full e ≡ false → IsOrderly g b
     room_case was =
         orderly-from g b o.order kept.sound kept.whole (with_elements-listed g a o class c page m e f here as_many good)
         o.fronts
-        (spotted-step g a b class c page (spotted-of g a o) same before after (λ j d p _. refl)
+        (in_list-step g a b class c page (in_list-of g a o) same before after (λ j d p _. refl)
         (λ _. (
           (λ _. record { pages = m; elements = f; begins = new; room = room }),
-          λ _. (spotted-of g a o class c page small).1 (record { pages = m; elements = e; begins = here; room = was }),
+          λ _. (in_list-of g a o class c page small).1 (record { pages = m; elements = e; begins = here; room = was }),
         )))
         o.once
 

@@ -12,7 +12,7 @@ use Rattle.pool_law.specs.Chunks.{Chunk, Use, Sub}
 use Rattle.pool_law.specs.ChunkLists.{list_of}
 use Rattle.pool_law.specs.Arenas.{Arena, chunk_at, front_of, elements_in, elements_at}
 use Rattle.arena_laws.specs.Slots.{IsSound}
-use Rattle.arena_laws.specs.Orderly.{has_spot, SpotsDiffer, HasRoom, chunk_of, IsOrderly}
+use Rattle.arena_laws.specs.Orderly.{has_subpage, SubpagesDiffer, HasRoom, chunk_of, IsOrderly}
 use Rattle.pool_law.proofs.ListLemmas.{slice_get-set_same, slice_get-set_other}
 use Rattle.arena_laws.proofs.ChunkSteps.{same_or-not}
 use Rattle.arena_laws.proofs.FrontSteps.{Here, here-or_not}
@@ -86,9 +86,9 @@ pub has-room : (a : Arena) (class c page : ℕ) → NoneEmpty (chunk_at a c) →
 has-room a class c page ne r =
     record { elements = r.elements; here = elements-found a class c page r.pages r.elements ne r.begins; room = r.room }
 
-abbrev pub Spotted : Geometry → Arena → Type 0
-Spotted g a =
-    (class c page : ℕ) → is_small g class ≡ true → (has_spot c page (front_of a class) ≡ true) ↔ Roomy a class c page
+abbrev pub Yielded : Geometry → Arena → Type 0
+Yielded g a =
+    (class c page : ℕ) → is_small g class ≡ true → (has_subpage c page (front_of a class) ≡ true) ↔ Roomy a class c page
 
 -- a small class has a list
 pub small-below : (g : Geometry) (a : Arena) (class : ℕ) → IsOrderly g a → is_small g class ≡ true
@@ -102,17 +102,17 @@ small-below g a class o small =
 abbrev pub OnlyOf : Arena → ℕ → ℕ → ℕ → Type 0
 OnlyOf a c page class = (k n : ℕ) (e : Elements) → UsedAt a c page n (Sub k e) → k ≡ class
 
-module _ (g : Geometry) (a b : Arena) (class c page : ℕ) (spotted : Spotted g a) (same : SameBut a b c page)
+module _ (g : Geometry) (a b : Arena) (class c page : ℕ) (in_list : Yielded g a) (same : SameBut a b c page)
     (only_before : OnlyOf a c page class) (only_after : OnlyOf b c page class)
     (fronts : (k d p : ℕ) → ((k ≡ class) × Here c page d p → ⊥)
-    → has_spot d p (front_of b k) ≡ has_spot d p (front_of a k))
-    (now : is_small g class ≡ true → (has_spot c page (front_of b class) ≡ true) ↔ Roomy b class c page) where
+    → has_subpage d p (front_of b k) ≡ has_subpage d p (front_of a k))
+    (now : is_small g class ≡ true → (has_subpage c page (front_of b class) ≡ true) ↔ Roomy b class c page) where
   at-here : (k d p : ℕ) → k ≡ class → d ≡ c → p ≡ page → is_small g k ≡ true
-      → (has_spot d p (front_of b k) ≡ true) ↔ Roomy b k d p
+      → (has_subpage d p (front_of b k) ≡ true) ↔ Roomy b k d p
   at-here k d p ek ed ep small =
-      subst (λ j. (has_spot d p (front_of b j) ≡ true) ↔ Roomy b j d p) (sym ek)
-      (subst (λ j. (has_spot j p (front_of b class) ≡ true) ↔ Roomy b class j p) (sym ed)
-      (subst (λ j. (has_spot c j (front_of b class) ≡ true) ↔ Roomy b class c j) (sym ep)
+      subst (λ j. (has_subpage d p (front_of b j) ≡ true) ↔ Roomy b j d p) (sym ek)
+      (subst (λ j. (has_subpage j p (front_of b class) ≡ true) ↔ Roomy b class j p) (sym ed)
+      (subst (λ j. (has_subpage c j (front_of b class) ≡ true) ↔ Roomy b class c j) (sym ep)
       (now (subst (λ j. is_small g j ≡ true) ek small))))
 
   only-here : (x : Arena) → OnlyOf x c page class → (k d p n : ℕ) (e : Elements) → Here c page d p
@@ -143,15 +143,15 @@ module _ (g : Geometry) (a b : Arena) (class c page : ℕ) (spotted : Spotted g 
       }
 
   elsewhere : (k d p : ℕ) → ((k ≡ class) × Here c page d p → ⊥) → is_small g k ≡ true
-      → (has_spot d p (front_of b k) ≡ true) ↔ Roomy b k d p
+      → (has_subpage d p (front_of b k) ≡ true) ↔ Roomy b k d p
   elsewhere k d p apart small = (
-    (λ h. roomy-keeps k d p apart ((spotted k d p small).0 (sym (fronts k d p apart) ∙ h))),
-    λ r. fronts k d p apart ∙ (spotted k d p small).1 (roomy-back k d p apart r),
+    (λ h. roomy-keeps k d p apart ((in_list k d p small).0 (sym (fronts k d p apart) ∙ h))),
+    λ r. fronts k d p apart ∙ (in_list k d p small).1 (roomy-back k d p apart r),
   )
 
   -- a step that changes one run, and the list of one class at most at that run
-  pub spotted-step : Spotted g b
-  spotted-step k d p small =
+  pub in_list-step : Yielded g b
+  in_list-step k d p small =
       ⊎_elim
       (λ ek. ⊎_elim (λ h. at-here k d p ek h.0 h.1 small) (λ apart. elsewhere k d p (λ x. apart x.1) small)
       (here-or_not c page d p))
@@ -160,25 +160,25 @@ module _ (g : Geometry) (a b : Arena) (class c page : ℕ) (spotted : Spotted g 
 
 -- ---- the whole
 
-pub spotted-of : (g : Geometry) (a : Arena) → IsOrderly g a → Spotted g a
-spotted-of g a o class c page small = (
-  (λ h. roomy-of a class c page ((o.spotted class c page small).0 h)),
-  λ r. (o.spotted class c page small).1 (has-room a class c page (o.sound c).none_empty r),
+pub in_list-of : (g : Geometry) (a : Arena) → IsOrderly g a → Yielded g a
+in_list-of g a o class c page small = (
+  (λ h. roomy-of a class c page ((o.in_list class c page small).0 h)),
+  λ r. (o.in_list class c page small).1 (has-room a class c page (o.sound c).none_empty r),
 )
 
 pub orderly-from : (g : Geometry) (a : Arena) → 3 ≤ g.order → Sounds g a → Wholes g a → Listed a
-    → length a.fronts ≡ class_count g → Spotted g a →
-    ((class : ℕ) → SpotsDiffer (front_of a class)) → IsOrderly g a
-orderly-from g a order sound whole listed fronts spotted once =
+    → length a.fronts ≡ class_count g → Yielded g a →
+    ((class : ℕ) → SubpagesDiffer (front_of a class)) → IsOrderly g a
+orderly-from g a order sound whole listed fronts in_list once =
     record {
       order = order;
       sound = sound;
       whole = whole;
       listed = listed;
       fronts = fronts;
-      spotted = λ class c page small. (
-        (λ h. has-room a class c page (sound c).none_empty ((spotted class c page small).0 h)),
-        λ r. (spotted class c page small).1 (roomy-of a class c page r),
+      in_list = λ class c page small. (
+        (λ h. has-room a class c page (sound c).none_empty ((in_list class c page small).0 h)),
+        λ r. (in_list class c page small).1 (roomy-of a class c page r),
       );
       once = once;
     }
@@ -194,10 +194,10 @@ orderly-same g a b chunks lists fronts o =
       whole = o.whole;
       listed = o.listed;
       fronts = o.fronts;
-      spotted = λ class c page small. (
-        (λ h. let r : HasRoom a class c page = (o.spotted class c page small).0 h in
+      in_list = λ class c page small. (
+        (λ h. let r : HasRoom a class c page = (o.in_list class c page small).0 h in
             record { elements = r.elements; here = r.here; room = r.room }),
-        λ r. (o.spotted class c page small).1 (record { elements = r.elements; here = r.here; room = r.room }),
+        λ r. (o.in_list class c page small).1 (record { elements = r.elements; here = r.here; room = r.room }),
       );
       once = o.once;
     })

@@ -10,9 +10,9 @@ use Rattle.size_classes.proofs.Runs.{Begins-one, EachRun-Begins}
 use Rattle.pool_law.specs.declared.report.ListName.TheVariants.{QInit}
 use Rattle.pool_law.specs.Chunks.{Use, Whole, Sub, new_chunk, usage, RemembersFree}
 use Rattle.pool_law.specs.ChunkLists.{list_of}
-use Rattle.pool_law.specs.Arenas.{Arena, chunk_at, with_run, opened, first_unused, with_elements, element_taken, with_front, front_of, without_spot, with_subpage}
+use Rattle.pool_law.specs.Arenas.{Arena, chunk_at, with_run, opened, first_unused, with_elements, element_taken, with_front, front_of, without_subpage, with_subpage}
 use Rattle.arena_laws.specs.Slots.{ElementsFit, ArenaHolds}
-use Rattle.arena_laws.specs.Orderly.{has_spot, IsOrderly}
+use Rattle.arena_laws.specs.Orderly.{has_subpage, IsOrderly}
 use Rattle.pool_law.proofs.ListLemmas.{slice_set-length}
 use Rattle.arena_laws.proofs.ChunkSteps.{Always, run_taken-keeps}
 use Rattle.arena_laws.proofs.ElementChanges.{elements-keeps, elements_to, StillOut, next_element-is}
@@ -22,7 +22,7 @@ use Rattle.arena_laws.proofs.ElementSteps.{not-full}
 use Rattle.arena_laws.proofs.ArenaSteps.{chunk_at-below, opened-holds}
 use Rattle.arena_laws.proofs.GiveSteps.{Kept, written}
 use Rattle.arena_laws.proofs.UsedSteps.{UsedAt, SameBut, with_run-same, with_run-unused, with_run-new, with_elements-same, with_elements-new, opened-same, opened-before, opened-after, opened-below}
-use Rattle.arena_laws.proofs.OrderlyParts.{Listed, begins-listed, listed-with, Roomy, small-below, OnlyOf, spotted-step, spotted-of, orderly-from}
+use Rattle.arena_laws.proofs.OrderlyParts.{Listed, begins-listed, listed-with, Roomy, small-below, OnlyOf, in_list-step, in_list-of, orderly-from}
 
 -- a chunk place gets a new chunk
 pub opened-orderly : (g : Geometry) (a : Arena) (c : ℕ) → IsOrderly g a → first_unused a.chunks ≡ Some c
@@ -33,12 +33,12 @@ opened-orderly g a c o unused =
     (λ d other. entered-other a.lists c d QInit other)
     ((λ e. absurd (entered-in a.lists c QInit e)), λ e. absurd (cc e)) o.listed)
     o.fronts
-    (spotted-step g a (opened g a c) 0 c 0 (spotted-of g a o) (opened-same g a c unused)
+    (in_list-step g a (opened g a c) 0 c 0 (in_list-of g a o) (opened-same g a c unused)
     (λ k n e u. absurd (opened-before g a c unused 0 n (Sub k e) u))
     (λ k n e u. absurd (opened-after g a c unused 0 n (Sub k e) u))
     (λ k d p _. refl)
     (λ small. (
-      (λ h. let r : Roomy a 0 c 0 = (spotted-of g a o 0 c 0 small).0 h in
+      (λ h. let r : Roomy a 0 c 0 = (in_list-of g a o 0 c 0 small).0 h in
           absurd (opened-before g a c unused 0 r.pages (Sub 0 r.elements) r.begins)),
       λ r. absurd (opened-after g a c unused 0 r.pages (Sub 0 r.elements) r.begins),
     )))
@@ -85,13 +85,13 @@ with_run-orderly g a o c at n pages here fits some_pages =
     orderly-from g b o.order (with_run-kept g a o c at n pages Whole here fits some_pages tt).sound
     (with_run-kept g a o c at n pages Whole here fits some_pages tt).whole
     (with_run-listed g a o c at n pages Whole here fits some_pages tt) o.fronts
-    (spotted-step g a b 0 c at (spotted-of g a o)
+    (in_list-step g a b 0 c at (in_list-of g a o)
     (with_run-same g a c at n pages Whole (o.sound c).none_empty here fits)
     (λ k m e u. absurd (with_run-unused g a c at n pages Whole (o.sound c).none_empty here m (Sub k e) u))
     (λ k m e u. absurd (cc (with_run-only g a o c at n pages Whole here fits some_pages tt m (Sub k e) u)))
     (λ k d p _. refl)
     (λ small. (
-      (λ h. let r : Roomy a 0 c at = (spotted-of g a o 0 c at small).0 h in
+      (λ h. let r : Roomy a 0 c at = (in_list-of g a o 0 c at small).0 h in
           absurd (with_run-unused g a c at n pages Whole (o.sound c).none_empty here r.pages (Sub 0 r.elements)
           r.begins)),
       λ r. absurd (cc (with_run-only g a o c at n pages Whole here fits some_pages tt r.pages (Sub 0 r.elements)
@@ -112,7 +112,7 @@ with_subpage-orderly g a o class c at n pages e small here fits some_pages good 
     orderly-from g b o.order kept.sound kept.whole
     (with_run-listed g a o c at n pages (Sub class e) here fits some_pages good)
     (slice_set-length a.fronts class ((c, at) ∷ front_of a class) ∙ o.fronts)
-    (spotted-step g a b class c at (spotted-of g a o) (record { back = same.back; keeps = same.keeps })
+    (in_list-step g a b class c at (in_list-of g a o) (record { back = same.back; keeps = same.keeps })
     (λ k m f w. absurd (unused m (Sub k f) w))
     (λ k m f w. cc (with_run-only g a o c at n pages (Sub class e) here fits some_pages good m (Sub k f) w))
     (others-with u class c at below)
@@ -124,7 +124,7 @@ with_subpage-orderly g a o class c at n pages e small here fits some_pages good 
             with_run-new g a c at n pages (Sub class e) (o.sound c).none_empty here;
         room = room;
       }),
-      λ _. ap (has_spot c at) (front-same u class ((c, at) ∷ front_of a class) below)
+      λ _. ap (has_subpage c at) (front-same u class ((c, at) ∷ front_of a class) below)
           ∙ spot-first c at (front_of a class),
     )))
     (once-with u class ((c, at) ∷ front_of a class) below o.once (absent, o.once class))
@@ -147,13 +147,13 @@ with_subpage-orderly g a o class c at n pages e small here fits some_pages good 
     below : class < length a.fronts
     below = small-below g a class o small
 
-    absent : has_spot c at (front_of a class) ≡ false
+    absent : has_subpage c at (front_of a class) ≡ false
     absent =
         ⊎_elim
-        (λ yes. let r : Roomy a class c at = (spotted-of g a o class c at small).0 yes in
+        (λ yes. let r : Roomy a class c at = (in_list-of g a o class c at small).0 yes in
         absurd (unused r.pages (Sub class r.elements) r.begins))
         (λ no. no)
-        (cases_Bool (has_spot c at (front_of a class)))
+        (cases_Bool (has_subpage c at (front_of a class)))
 
 -- a subpage gets other elements
 module _ (g : Geometry) (a : Arena) (o : IsOrderly g a) (class c page m : ℕ) (e f : Elements)
@@ -192,7 +192,7 @@ pub element_taken-orderly : (g : Geometry) (a : Arena) → IsOrderly g a → (cl
     → is_small g class ≡ true →
     UsedAt a c page m (Sub class e) → next_element e ≡ Some k → IsOrderly g (element_taken g a class (c, page) e k).2
 element_taken-orderly g a o class c page m k e small here next =
-    cond_both (is_full f) (with_front b class (without_spot c page (front_of a class))) b (IsOrderly g) full_case
+    cond_both (is_full f) (with_front b class (without_subpage c page (front_of a class))) b (IsOrderly g) full_case
     room_case
   where
     f : Elements
@@ -225,31 +225,32 @@ element_taken-orderly g a o class c page m k e small here next =
     below : class < length a.fronts
     below = small-below g a class o small
 
-    full_case : is_full f ≡ true → IsOrderly g (with_front b class (without_spot c page (front_of a class)))
+    full_case : is_full f ≡ true → IsOrderly g (with_front b class (without_subpage c page (front_of a class)))
     full_case full =
-        orderly-from g (with_front b class (without_spot c page (front_of a class))) o.order kept.sound kept.whole
+        orderly-from g (with_front b class (without_subpage c page (front_of a class))) o.order kept.sound kept.whole
         (with_elements-listed g a o class c page m e f here as_many tt)
-        (slice_set-length a.fronts class (without_spot c page (front_of a class)) ∙ o.fronts)
-        (spotted-step g a (with_front b class (without_spot c page (front_of a class))) class c page (spotted-of g a o)
+        (slice_set-length a.fronts class (without_subpage c page (front_of a class)) ∙ o.fronts)
+        (in_list-step g a (with_front b class (without_subpage c page (front_of a class))) class c page
+        (in_list-of g a o)
         (record { back = same.back; keeps = same.keeps }) before after
         (others-without b class c page below)
         (λ _. (
           (λ h. absurd (let both : true ≡ false = sym h
-              ∙ ap (has_spot c page) (front-same b class (without_spot c page (front_of a class)) below)
+              ∙ ap (has_subpage c page) (front-same b class (without_subpage c page (front_of a class)) below)
               ∙ without-same c page (front_of a class) in cc both)),
           λ r. absurd (let elements : r.elements ≡ f =
               cc (with_elements-only g a o class c page m e f here as_many tt r.pages (Sub class r.elements)
               r.begins) in
               let both : true ≡ false = sym full ∙ ap is_full (sym elements) ∙ r.room in cc both),
         )))
-        (once-with b class (without_spot c page (front_of a class)) below o.once
+        (once-with b class (without_subpage c page (front_of a class)) below o.once
         (without-differ c page (front_of a class) (o.once class)))
 
     room_case : is_full f ≡ false → IsOrderly g b
     room_case room =
         orderly-from g b o.order kept.sound kept.whole (with_elements-listed g a o class c page m e f here as_many tt)
         o.fronts
-        (spotted-step g a b class c page (spotted-of g a o) same before after (λ j d p _. refl)
+        (in_list-step g a b class c page (in_list-of g a o) same before after (λ j d p _. refl)
         (λ _. (
           (λ _. record {
             pages = m;
@@ -258,7 +259,7 @@ element_taken-orderly g a o class c page m k e small here next =
                 with_elements-new a c page m class e f (o.sound c).none_empty here;
             room = room;
           }),
-          λ _. (spotted-of g a o class c page small).1
+          λ _. (in_list-of g a o class c page small).1
               (record { pages = m; elements = e; begins = here; room = not-full e.out k free }),
         )))
         o.once

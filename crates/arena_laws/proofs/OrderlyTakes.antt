@@ -10,9 +10,9 @@ use Rattle.size_classes.specs.Elements.{Elements, new_elements, next_element}
 use Rattle.size_classes.proofs.Runs.{subpage_pages-least}
 use Rattle.pool_law.specs.declared.id.RegionId.{RegionId}
 use Rattle.pool_law.specs.Chunks.{Chunk, Use, Whole, Sub}
-use Rattle.pool_law.specs.Arenas.{Arena, Spotted, new_arena, chunk_at, run_from, take_run, elements_at, element_taken, take_element, front_of, with_subpage, take_small, take_class, noted_taking, take}
+use Rattle.pool_law.specs.Arenas.{Arena, Yielded, new_arena, chunk_at, run_from, take_run, elements_at, element_taken, take_element, front_of, with_subpage, take_small, take_class, noted_taking, take}
 use Rattle.arena_laws.specs.Slots.{ArenaHolds}
-use Rattle.arena_laws.specs.Orderly.{has_spot, SpotsDiffer, HasRoom, IsOrderly}
+use Rattle.arena_laws.specs.Orderly.{has_subpage, SubpagesDiffer, HasRoom, IsOrderly}
 use Rattle.arena_laws.proofs.FrontSteps.{spot-first, front-same}
 use Rattle.arena_laws.proofs.ElementSteps.{next-there, new-has_room}
 use Rattle.arena_laws.proofs.ElementTakes.{elements_at-is, new-subpage, pages_of-pos}
@@ -40,11 +40,11 @@ new-orderly g chunks page order =
     (length-replicate (class_count g) [])
     (λ class c page small. (
       (λ h. absurd (let both : true ≡ false = sym h
-          ∙ ap (has_spot c page) (no_front (class_count g) class) in cc both)),
+          ∙ ap (has_subpage c page) (no_front (class_count g) class) in cc both)),
       λ r. absurd (subst (λ x. Begins page (Used r.pages (Sub class r.elements)) x)
           (ap (λ o. unwrap_or o []) (no_place chunks c)) r.begins),
     ))
-    (λ class. subst SpotsDiffer (sym (no_front (class_count g) class)) tt)
+    (λ class. subst SubpagesDiffer (sym (no_front (class_count g) class)) tt)
   where
     holds : ArenaHolds g 0 (new_arena g chunks)
     holds = new-holds g 0 page chunks
@@ -75,27 +75,27 @@ next-taken g a class spot n =
 
 -- a subpage that stands in the list of a small class has a next element
 pub spot-next : (g : Geometry) (a : Arena) (class c page : ℕ) → IsOrderly g a → is_small g class ≡ true
-    → has_spot c page (front_of a class) ≡ true → HasNext a class c page
-spot-next g a class c page o small listed = room-next a class c page ((o.spotted class c page small).0 listed)
+    → has_subpage c page (front_of a class) ≡ true → HasNext a class c page
+spot-next g a class c page o small listed = room-next a class c page ((o.in_list class c page small).0 listed)
 
 -- above all the front one
-pub front-next : (g : Geometry) (a : Arena) (class : ℕ) (spot : ℕ × ℕ) (spots : List (ℕ × ℕ)) → IsOrderly g a
-    → is_small g class ≡ true → front_of a class ≡ spot ∷ spots →
+pub front-next : (g : Geometry) (a : Arena) (class : ℕ) (spot : ℕ × ℕ) (subpages : List (ℕ × ℕ)) → IsOrderly g a
+    → is_small g class ≡ true → front_of a class ≡ spot ∷ subpages →
     HasNext a class spot.0 spot.1
-front-next g a class spot spots o small front =
-    spot-next g a class spot.0 spot.1 o small (ap (has_spot spot.0 spot.1) front ∙ spot-first spot.0 spot.1 spots)
+front-next g a class spot subpages o small front =
+    spot-next g a class spot.0 spot.1 o small (ap (has_subpage spot.0 spot.1) front ∙ spot-first spot.0 spot.1 subpages)
 
-pub front-gives : (g : Geometry) (a : Arena) (class : ℕ) (spot : ℕ × ℕ) (spots : List (ℕ × ℕ)) → IsOrderly g a
-    → is_small g class ≡ true → front_of a class ≡ spot ∷ spots →
+pub front-gives : (g : Geometry) (a : Arena) (class : ℕ) (spot : ℕ × ℕ) (subpages : List (ℕ × ℕ)) → IsOrderly g a
+    → is_small g class ≡ true → front_of a class ≡ spot ∷ subpages →
     take_element g a class spot ≡ None → ⊥
-front-gives g a class spot spots o small front none =
-    let n : HasNext a class spot.0 spot.1 = front-next g a class spot spots o small front in
+front-gives g a class spot subpages o small front none =
+    let n : HasNext a class spot.0 spot.1 = front-next g a class spot subpages o small front in
     let both : Some (element_taken g a class spot n.elements n.next) ≡ None = sym (next-taken g a class spot n)
     ∙ none in
     cc both
 
 -- an element that is taken leaves the arena in order
-pub take_element-orderly : (g : Geometry) (a : Arena) (class : ℕ) (spot : ℕ × ℕ) (t : Spotted) → IsOrderly g a
+pub take_element-orderly : (g : Geometry) (a : Arena) (class : ℕ) (spot : ℕ × ℕ) (t : Yielded) → IsOrderly g a
     → is_small g class ≡ true → take_element g a class spot ≡ Some t → IsOrderly g t.2
 take_element-orderly g a class spot t o small e =
     outer (elements_at a class spot.0 spot.1) (λ f. elements_at-is a class spot.0 spot.1 f) e
@@ -120,7 +120,7 @@ take_element-orderly g a class spot t o small e =
 -- ---- runs
 
 -- a run that is taken as a whole leaves the arena in order
-pub take_run-orderly : (g : Geometry) (a : Arena) (pages : ℕ) → IsOrderly g a → 0 < pages → (t : Spotted)
+pub take_run-orderly : (g : Geometry) (a : Arena) (pages : ℕ) → IsOrderly g a → 0 < pages → (t : Yielded)
     → take_run g a pages Whole ≡ Some t → IsOrderly g t.2
 take_run-orderly g a pages o some t e =
     take_run-by g pages Whole (IsOrderly g) (opened-orderly g) (λ u. IsOrderly g u.2)
@@ -141,7 +141,7 @@ run_from-subpage g a class spot n o small here fits =
     (subpage_pages-least g class) (new-subpage g class) (new-has_room g (o.sound 0).page class small)
 
 pub take_subpage-orderly : (g : Geometry) (a : Arena) (class : ℕ) → IsOrderly g a → is_small g class ≡ true
-    → (t : Spotted) → take_run g a (subpage_pages g class) (new_use g class) ≡ Some t →
+    → (t : Yielded) → take_run g a (subpage_pages g class) (new_use g class) ≡ Some t →
     IsOrderly g (with_subpage class t)
 take_subpage-orderly g a class o small t e =
     take_run-by g (subpage_pages g class) (new_use g class) (IsOrderly g) (opened-orderly g)
@@ -150,14 +150,14 @@ take_subpage-orderly g a class o small t e =
     a o t e
 
 -- the lists of an arena that gave a run are as many as before
-pub take_run-fronts : (g : Geometry) (a : Arena) (pages : ℕ) (what : Use) → IsOrderly g a → (t : Spotted)
+pub take_run-fronts : (g : Geometry) (a : Arena) (pages : ℕ) (what : Use) → IsOrderly g a → (t : Yielded)
     → take_run g a pages what ≡ Some t → length t.2.fronts ≡ class_count g
 take_run-fronts g a pages what o t e =
     take_run-by g pages what (IsOrderly g) (opened-orderly g) (λ u. length u.2.fronts ≡ class_count g)
     (λ x spot n order here fits. order.fronts) a o t e
 
 -- a new subpage gives an element
-pub new-gives : (g : Geometry) (a : Arena) (class : ℕ) → IsOrderly g a → is_small g class ≡ true → (t : Spotted)
+pub new-gives : (g : Geometry) (a : Arena) (class : ℕ) → IsOrderly g a → is_small g class ≡ true → (t : Yielded)
     → take_run g a (subpage_pages g class) (new_use g class) ≡ Some t →
     take_element g (with_subpage class t) class (t.0, t.1) ≡ None → ⊥
 new-gives g a class o small t e =
@@ -171,17 +171,17 @@ new-gives g a class o small t e =
 -- ---- a class, and a taking
 
 pub take_small-orderly : (g : Geometry) (a : Arena) (class : ℕ) → IsOrderly g a → is_small g class ≡ true
-    → (spots : List (ℕ × ℕ)) (t : Spotted) → take_small g a class spots ≡ Some t → IsOrderly g t.2
-take_small-orderly g a class o small (spot ∷ spots) t e = take_element-orderly g a class spot t o small e
+    → (subpages : List (ℕ × ℕ)) (t : Yielded) → take_small g a class subpages ≡ Some t → IsOrderly g t.2
+take_small-orderly g a class o small (spot ∷ subpages) t e = take_element-orderly g a class spot t o small e
 take_small-orderly g a class o small [] t e =
     go (take_run g a (subpage_pages g class) (new_use g class)) (λ u. take_subpage-orderly g a class o small u) e
   where
-    go : (x : Option Spotted) → ((u : Spotted) → x ≡ Some u → IsOrderly g (with_subpage class u))
+    go : (x : Option Yielded) → ((u : Yielded) → x ≡ Some u → IsOrderly g (with_subpage class u))
         → option_and_then (λ u. take_element g (with_subpage class u) class (u.0, u.1)) x ≡ Some t → IsOrderly g t.2
     go None order is = absurd (cc is)
     go (Some u) order is = take_element-orderly g (with_subpage class u) class (u.0, u.1) t (order u refl) small is
 
-pub take_class-orderly : (g : Geometry) (a : Arena) (class : ℕ) → IsOrderly g a → (t : Spotted)
+pub take_class-orderly : (g : Geometry) (a : Arena) (class : ℕ) → IsOrderly g a → (t : Yielded)
     → take_class g a class ≡ Some t → IsOrderly g t.2
 take_class-orderly g a class o t e =
     cond_both (is_small g class) (take_small g a class (front_of a class))
@@ -192,7 +192,7 @@ take_class-orderly g a class o t e =
     (λ u. take_run-orderly g a (pages_of g class) o (pages_of-pos g 0 class (o.sound 0).page) u) is)
     e
   where
-    go : (x : Option Spotted) → ((u : Spotted) → x ≡ Some u → IsOrderly g u.2)
+    go : (x : Option Yielded) → ((u : Yielded) → x ≡ Some u → IsOrderly g u.2)
         → option_map (λ u. (u.0, page_of g * u.1, u.2)) x ≡ Some t → IsOrderly g t.2
     go None order is = absurd (cc is)
     go (Some u) order is =
@@ -204,7 +204,7 @@ pub take-orderly : (g : Geometry) (number : ℕ) (a : Arena) (class owner : ℕ)
     → take g number a class owner ≡ Some t → IsOrderly g t.1
 take-orderly g number a class owner o t e = go (take_class g a class) (λ u. take_class-orderly g a class o u) e
   where
-    go : (x : Option Spotted) → ((u : Spotted) → x ≡ Some u → IsOrderly g u.2)
+    go : (x : Option Yielded) → ((u : Yielded) → x ≡ Some u → IsOrderly g u.2)
         → option_map (noted_taking number class owner) x ≡ Some t → IsOrderly g t.1
     go None order is = absurd (cc is)
     go (Some u) order is =

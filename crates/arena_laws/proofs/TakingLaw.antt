@@ -8,7 +8,7 @@ use Rattle.pool_law.specs.declared.note.Did.TheVariants.{Take, Full, Give}
 use Rattle.pool_law.specs.declared.run.Shape.{Shape}
 use Rattle.pool_law.specs.Limits.{geometry_of}
 use Rattle.pool_law.specs.Same.{same_region}
-use Rattle.pool_law.specs.Arenas.{Arena, Spotted, new_arena, take_class, noted_taking, take, give, is_out_of, as_noted, if_none, arena_step}
+use Rattle.pool_law.specs.Arenas.{Arena, Yielded, new_arena, take_class, noted_taking, take, give, is_out_of, as_noted, if_none, arena_step}
 use Rattle.pool_law.specs.Histories.{after}
 use Rattle.arena_laws.specs.Takings.{IsTaking, TakenInOrder, TakingsInOrder}
 use Rattle.pool_law.proofs.SameLemmas.{same_region-is}
@@ -20,7 +20,7 @@ module _ (g : Geometry) (number : ℕ) where
       IsTaking number class a.takings t.0 × (t.1.takings ≡ a.takings + 1)
   take-numbers a class owner t e = go (take_class g a class) (take_class-takings g class a) e
     where
-      go : (o : Option Spotted) → ((u : Spotted) → o ≡ Some u → u.2.takings ≡ a.takings) →
+      go : (o : Option Yielded) → ((u : Yielded) → o ≡ Some u → u.2.takings ≡ a.takings) →
           option_map (noted_taking number class owner) o ≡ Some t
           → IsTaking number class a.takings t.0 × (t.1.takings ≡ a.takings + 1)
       go None found is = absurd (cc is)

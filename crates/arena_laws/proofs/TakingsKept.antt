@@ -6,13 +6,13 @@ use Rattle.size_classes.specs.Elements.{Elements, new_elements, next_element, wi
 use Rattle.size_classes.specs.Pages.{run_start}
 use Rattle.pool_law.specs.Chunks.{Use, Whole, Sub}
 use Rattle.pool_law.specs.ChunkLists.{walk}
-use Rattle.pool_law.specs.Arenas.{Arena, Spotted, chunk_at, front_of, with_front, without_spot, elements_at, with_elements, first_holding, first_unused, opened, run_from, run_from_new, run_taken, take_run, element_taken, take_element, with_subpage, take_small, take_class, is_alone, run_given, idle_given, element_given, small_given, given_place}
+use Rattle.pool_law.specs.Arenas.{Arena, Yielded, chunk_at, front_of, with_front, without_subpage, elements_at, with_elements, first_holding, first_unused, opened, run_from, run_from_new, run_taken, take_run, element_taken, take_element, with_subpage, take_small, take_class, is_alone, run_given, idle_given, element_given, small_given, given_place}
 use Rattle.std.proofs.lemmas.Bool.{cond_both}
 
 -- ---- what is taken
 
 module _ (g : Geometry) (a : Arena) (pages : ℕ) (what : Use) where
-  run_from_new-takings : (o : Option ℕ) (t : Spotted) → run_from_new g a pages what o ≡ Some t → t.2.takings ≡ a.takings
+  run_from_new-takings : (o : Option ℕ) (t : Yielded) → run_from_new g a pages what o ≡ Some t → t.2.takings ≡ a.takings
   run_from_new-takings None t e = absurd (cc e)
   run_from_new-takings (Some c) t e = go (first_holding g (opened g a c) pages (c ∷ [])) e
     where
@@ -20,15 +20,15 @@ module _ (g : Geometry) (a : Arena) (pages : ℕ) (what : Use) where
       go None is = absurd (cc is)
       go (Some spot) is =
           let same : run_from g (opened g a c) pages what spot ≡ t = cc is in
-          sym (ap (λ (x : Spotted). x.2.takings) same)
+          sym (ap (λ (x : Yielded). x.2.takings) same)
 
-  run_taken-takings : (o : Option (ℕ × ℕ)) (t : Spotted) → run_taken g a pages what o ≡ Some t → t.2.takings ≡ a.takings
+  run_taken-takings : (o : Option (ℕ × ℕ)) (t : Yielded) → run_taken g a pages what o ≡ Some t → t.2.takings ≡ a.takings
   run_taken-takings None t e = run_from_new-takings (first_unused a.chunks) t e
   run_taken-takings (Some spot) t e =
       let same : run_from g a pages what spot ≡ t = cc e in
-      sym (ap (λ (x : Spotted). x.2.takings) same)
+      sym (ap (λ (x : Yielded). x.2.takings) same)
 
-  take_run-takings : (t : Spotted) → take_run g a pages what ≡ Some t → t.2.takings ≡ a.takings
+  take_run-takings : (t : Yielded) → take_run g a pages what ≡ Some t → t.2.takings ≡ a.takings
   take_run-takings = run_taken-takings (first_holding g a pages (walk a.lists))
 
 module _ (g : Geometry) (class : ℕ) where
@@ -36,10 +36,10 @@ module _ (g : Geometry) (class : ℕ) where
       → (element_taken g a class spot e k).2.takings ≡ a.takings
   element_taken-takings a spot e k =
       let b : Arena = with_elements a spot.0 spot.1 class (with_out e k) in
-      cond_both (is_full (with_out e k)) (with_front b class (without_spot spot.0 spot.1 (front_of b class))) b
+      cond_both (is_full (with_out e k)) (with_front b class (without_subpage spot.0 spot.1 (front_of b class))) b
       (λ (x : Arena). x.takings ≡ a.takings) (λ _. refl) (λ _. refl)
 
-  take_element-takings : (a : Arena) (spot : ℕ × ℕ) (t : Spotted) → take_element g a class spot ≡ Some t
+  take_element-takings : (a : Arena) (spot : ℕ × ℕ) (t : Yielded) → take_element g a class spot ≡ Some t
       → t.2.takings ≡ a.takings
   take_element-takings a spot t is = outer (elements_at a class spot.0 spot.1) is
     where
@@ -48,7 +48,7 @@ module _ (g : Geometry) (class : ℕ) where
       inner e None is = absurd (cc is)
       inner e (Some k) is =
           let same : element_taken g a class spot e k ≡ t = cc is in
-          sym (ap (λ (x : Spotted). x.2.takings) same) ∙ element_taken-takings a spot e k
+          sym (ap (λ (x : Yielded). x.2.takings) same) ∙ element_taken-takings a spot e k
 
       outer : (o : Option Elements) → option_and_then
           (λ e. option_map (λ k. element_taken g a class spot e k) (next_element e)) o ≡ Some t →
@@ -56,36 +56,36 @@ module _ (g : Geometry) (class : ℕ) where
       outer None is = absurd (cc is)
       outer (Some e) is = inner e (next_element e) is
 
-  take_small-takings : (a : Arena) (spots : List (ℕ × ℕ)) (t : Spotted) → take_small g a class spots ≡ Some t
+  take_small-takings : (a : Arena) (subpages : List (ℕ × ℕ)) (t : Yielded) → take_small g a class subpages ≡ Some t
       → t.2.takings ≡ a.takings
-  take_small-takings a (spot ∷ spots) t e = take_element-takings a spot t e
+  take_small-takings a (spot ∷ subpages) t e = take_element-takings a spot t e
   take_small-takings a [] t e =
       go (take_run g a (subpage_pages g class) what) (take_run-takings g a (subpage_pages g class) what) e
     where
       what : Use
       what = Sub class (new_elements (element_count g class))
 
-      go : (o : Option Spotted) → ((u : Spotted) → o ≡ Some u → u.2.takings ≡ a.takings) →
+      go : (o : Option Yielded) → ((u : Yielded) → o ≡ Some u → u.2.takings ≡ a.takings) →
           option_and_then (λ u. take_element g (with_subpage class u) class (u.0, u.1)) o ≡ Some t
           → t.2.takings ≡ a.takings
       go None found is = absurd (cc is)
       go (Some u) found is = take_element-takings (with_subpage class u) (u.0, u.1) t is ∙ found u refl
 
-  pub take_class-takings : (a : Arena) (t : Spotted) → take_class g a class ≡ Some t → t.2.takings ≡ a.takings
+  pub take_class-takings : (a : Arena) (t : Yielded) → take_class g a class ≡ Some t → t.2.takings ≡ a.takings
   take_class-takings a t e =
       cond_both (is_small g class) (take_small g a class (front_of a class))
       (option_map (λ u. (u.0, page_of g * u.1, u.2)) (take_run g a (pages_of g class) Whole))
-      (λ (z : Option Spotted). z ≡ Some t → t.2.takings ≡ a.takings)
+      (λ (z : Option Yielded). z ≡ Some t → t.2.takings ≡ a.takings)
       (λ _ is. take_small-takings a (front_of a class) t is)
       (λ _ is. go (take_run g a (pages_of g class) Whole) (take_run-takings g a (pages_of g class) Whole) is)
       e
     where
-      go : (o : Option Spotted) → ((u : Spotted) → o ≡ Some u → u.2.takings ≡ a.takings) →
+      go : (o : Option Yielded) → ((u : Yielded) → o ≡ Some u → u.2.takings ≡ a.takings) →
           option_map (λ u. (u.0, page_of g * u.1, u.2)) o ≡ Some t → t.2.takings ≡ a.takings
       go None found is = absurd (cc is)
       go (Some u) found is =
           let same : (u.0, page_of g * u.1, u.2) ≡ t = cc is in
-          sym (ap (λ (x : Spotted). x.2.takings) same) ∙ found u refl
+          sym (ap (λ (x : Yielded). x.2.takings) same) ∙ found u refl
 
 -- ---- what is given back
 
@@ -93,7 +93,7 @@ module _ (g : Geometry) (class c : ℕ) where
   idle_given-takings : (a : Arena) (page : ℕ) → (idle_given g a class c page).takings ≡ a.takings
   idle_given-takings a page =
       cond_both (is_alone (front_of a class)) a
-      (run_given g (with_front a class (without_spot c page (front_of a class))) c page)
+      (run_given g (with_front a class (without_subpage c page (front_of a class))) c page)
       (λ (x : Arena). x.takings ≡ a.takings) (λ _. refl) (λ _. refl)
 
   element_given-takings : (a : Arena) (page k : ℕ) (e : Elements)

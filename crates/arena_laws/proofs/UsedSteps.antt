@@ -11,7 +11,7 @@ use Rattle.size_classes.proofs.SmallClasses.{page-some}
 use Rattle.pool_law.specs.declared.report.ListName.{ListName}
 use Rattle.pool_law.specs.Chunks.{Chunk, Use, Sub, new_chunk, usage}
 use Rattle.pool_law.specs.ChunkLists.{lists_below, sunk, down_to, list_of, walk}
-use Rattle.pool_law.specs.Arenas.{Arena, Spotted, chunk_at, with_run, opened, first_holding, first_unused, run_from, run_from_new, run_taken, take_run, with_elements, unless_gone, run_given}
+use Rattle.pool_law.specs.Arenas.{Arena, Yielded, chunk_at, with_run, opened, first_holding, first_unused, run_from, run_from_new, run_taken, take_run, with_elements, unless_gone, run_given}
 use Rattle.arena_laws.specs.Slots.{IsSound}
 use Rattle.pool_law.proofs.ListLemmas.{slice_get-set_same, slice_get-below}
 use Rattle.arena_laws.proofs.ChunkSteps.{pages-pos, run_given-sound, run_given-total, same_or-not}
@@ -225,9 +225,9 @@ module _ (g : Geometry) (a : Arena) (c : ℕ) (unused : first_unused a.chunks �
 -- what holds of the first run that an arena gives, or a new chunk of it, holds of the run that is taken
 pub take_run-by : (g : Geometry) (pages : ℕ) (what : Use) (I : Arena → Type 0)
     → ((x : Arena) (c : ℕ) → I x → first_unused x.chunks ≡ Some c → I (opened g x c)) →
-    (P : Spotted → Type 0) → ((x : Arena) (spot : ℕ × ℕ) (n : ℕ) → I x → Begins spot.1 (Free n) (chunk_at x spot.0)
+    (P : Yielded → Type 0) → ((x : Arena) (spot : ℕ × ℕ) (n : ℕ) → I x → Begins spot.1 (Free n) (chunk_at x spot.0)
     → pages ≤ n → P (run_from g x pages what spot)) →
-    (a : Arena) → I a → (t : Spotted) → take_run g a pages what ≡ Some t → P t
+    (a : Arena) → I a → (t : Yielded) → take_run g a pages what ≡ Some t → P t
 take_run-by g pages what I new_kept P step a kept t e =
     go (first_holding g a pages (walk a.lists)) (λ spot. from a kept (walk a.lists) spot) e
   where

@@ -10,13 +10,13 @@ use Rattle.pool_law.specs.Arenas.{Arena, chunk_at, front_of, elements_at}
 use Rattle.arena_laws.specs.Slots.{IsSound}
 
 -- a subpage stands in a list, by its chunk and first page
-abbrev pub has_spot : ℕ → ℕ → List (ℕ × ℕ) → Bool
-has_spot c page spots = list_any (λ s. (s.0 == c) && (s.1 == page)) spots
+abbrev pub has_subpage : ℕ → ℕ → List (ℕ × ℕ) → Bool
+has_subpage c page subpages = list_any (λ s. (s.0 == c) && (s.1 == page)) subpages
 
 -- no subpage stands in a list twice
-abbrev pub SpotsDiffer : List (ℕ × ℕ) → Type 0
-SpotsDiffer [] = Unit {0}
-SpotsDiffer (s ∷ spots) = (has_spot s.0 s.1 spots ≡ false) × SpotsDiffer spots
+abbrev pub SubpagesDiffer : List (ℕ × ℕ) → Type 0
+SubpagesDiffer [] = Unit {0}
+SubpagesDiffer (s ∷ subpages) = (has_subpage s.0 s.1 subpages ≡ false) × SubpagesDiffer subpages
 
 -- a subpage of the class begins there, and has a free element
 pub record HasRoom (a : Arena) (class c page : ℕ) : Type 0 where
@@ -37,9 +37,9 @@ pub record IsOrderly (g : Geometry) (a : Arena) : Type 0 where
   pub whole : (c : ℕ) → (chunk_at a c ≡ []) ⊎ (total_pages (chunk_at a c) ≡ chunk_pages g)
   pub listed : (c : ℕ) → (list_of a.lists c ≡ None) ↔ (chunk_of a c ≡ None)
   pub fronts : length a.fronts ≡ class_count g
-  pub spotted : (class c page : ℕ) → is_small g class ≡ true →
-      (has_spot c page (front_of a class) ≡ true) ↔ HasRoom a class c page
-  pub once : (class : ℕ) → SpotsDiffer (front_of a class)
+  pub in_list : (class c page : ℕ) → is_small g class ≡ true →
+      (has_subpage c page (front_of a class) ≡ true) ↔ HasRoom a class c page
+  pub once : (class : ℕ) → SubpagesDiffer (front_of a class)
 
 -- a run that is free, or a subpage of which nothing is out
 abbrev pub IsAtRest : Run Use → Type 0

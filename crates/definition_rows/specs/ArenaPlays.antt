@@ -52,13 +52,13 @@ played order chunks asks =
     play (of_order order) (new_arena (of_order order) chunks, []) asks
 
 -- chunk and offset of what a note takes; none where the arena is full, or takes back
-abbrev pub spot_of : Did → Option (ℕ × ℕ)
-spot_of (Take class region) = Some (region.place.chunk, region.place.offset)
-spot_of _ = None
+abbrev pub taken_at : Did → Option (ℕ × ℕ)
+taken_at (Take class region) = Some (region.place.chunk, region.place.offset)
+taken_at _ = None
 
 -- what was taken, the last first
-abbrev pub spots : Played → List (Option (ℕ × ℕ))
-spots p = map spot_of p.1
+abbrev pub places_taken : Played → List (Option (ℕ × ℕ))
+places_taken p = map taken_at p.1
 
 -- the first of a list, if it is there
 abbrev pub first_of_all : {X : Type 0} → List (Option X) → Option X
@@ -66,8 +66,8 @@ first_of_all [] = None
 first_of_all (x ∷ xs) = x
 
 -- what was taken last
-abbrev pub last_spot : Played → Option (ℕ × ℕ)
-last_spot p = first_of_all (spots p)
+abbrev pub last_taken : Played → Option (ℕ × ℕ)
+last_taken p = first_of_all (places_taken p)
 
 -- the list, the used and the free bytes of a chunk
 abbrev pub state_of : ℕ → Played → ℕ → Option ListName × ℕ × ℕ

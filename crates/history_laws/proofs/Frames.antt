@@ -6,7 +6,7 @@ use Rattle.size_classes.specs.Pages.{run_start}
 use Rattle.size_classes.specs.Elements.{Elements, new_elements, next_element, with_out, with_back, is_full, is_idle}
 use Rattle.pool_law.specs.Chunks.{Use, Whole, Sub}
 use Rattle.pool_law.specs.ChunkLists.{walk}
-use Rattle.pool_law.specs.Arenas.{Arena, chunk_at, front_of, with_front, with_elements, elements_at, without_spot, run_from, opened, run_from_new, first_holding, first_unused, run_taken, take_run, element_taken, take_element, with_subpage, take_small, take_class, run_given, is_alone, idle_given, element_given, small_given, given_place}
+use Rattle.pool_law.specs.Arenas.{Arena, chunk_at, front_of, with_front, with_elements, elements_at, without_subpage, run_from, opened, run_from_new, first_holding, first_unused, run_taken, take_run, element_taken, take_element, with_subpage, take_small, take_class, run_given, is_alone, idle_given, element_given, small_given, given_place}
 
 pub record SameOut (a b : Arena) : Type 0 where
   pub takings : b.takings ≡ a.takings
@@ -45,7 +45,7 @@ element_leaves : (g : Geometry) (a b : Arena) (class : ℕ) (spot : ℕ × ℕ) 
 element_leaves g a b class spot e None s = tt
 element_leaves g a b class spot e (Some k) s =
     let c : Arena = with_elements b spot.0 spot.1 class (with_out e k) in
-    either a (with_front c class (without_spot spot.0 spot.1 (front_of c class))) c (is_full (with_out e k))
+    either a (with_front c class (without_subpage spot.0 spot.1 (front_of c class))) c (is_full (with_out e k))
     (record { takings = s.takings; out = s.out }) (record { takings = s.takings; out = s.out })
 
 elements_leave : (g : Geometry) (a b : Arena) (class : ℕ) (spot : ℕ × ℕ) (o : Option Elements) → SameOut a b →
@@ -60,8 +60,9 @@ subpage_leaves g a class (Some t) s =
     let b : Arena = with_subpage class t in
     elements_leave g a b class (t.0, t.1) (elements_at b class t.0 t.1) (record { takings = s.takings; out = s.out })
 
-small_leaves : (g : Geometry) (a : Arena) (class : ℕ) (spots : List (ℕ × ℕ)) → Leaves a (take_small g a class spots)
-small_leaves g a class (spot ∷ spots) = elements_leave g a a class spot (elements_at a class spot.0 spot.1) (same a)
+small_leaves : (g : Geometry) (a : Arena) (class : ℕ) (subpages : List (ℕ × ℕ))
+    → Leaves a (take_small g a class subpages)
+small_leaves g a class (spot ∷ subpages) = elements_leave g a a class spot (elements_at a class spot.0 spot.1) (same a)
 small_leaves g a class [] =
     let what : Use = Sub class (new_elements (element_count g class)) in
     subpage_leaves g a class (take_run g a (subpage_pages g class) what)
@@ -84,7 +85,7 @@ take_leaves g a class = by (is_small g class)
 
 idle_leaves : (g : Geometry) (a b : Arena) (class c page : ℕ) → SameOut a b → SameOut a (idle_given g b class c page)
 idle_leaves g a b class c page s =
-    either a b (run_given g (with_front b class (without_spot c page (front_of b class))) c page)
+    either a b (run_given g (with_front b class (without_subpage c page (front_of b class))) c page)
     (is_alone (front_of b class)) s
     (record { takings = s.takings; out = s.out })
 

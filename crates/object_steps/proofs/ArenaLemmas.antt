@@ -9,7 +9,7 @@ use Rattle.pool_law.specs.ChunkLists.{walk}
 use Rattle.pool_law.specs.Arenas.{Arena, chunk_at, with_run, opened, first_holding, first_unused, take_run, or_else}
 use Rattle.pool_law.proofs.ListLemmas.{slice_get-set_same, slice_set-length}
 use Rattle.object_steps.specs.Runs.{HasRoom, IsCapped}
-use Rattle.object_steps.specs.Moves.{HasRoomAt, GivesSpot}
+use Rattle.object_steps.specs.Moves.{HasRoomAt, GivesYielded}
 
 pub set_twice : {X : Type 0} (xs : List X) (i : ℕ) (x y : X) → slice_set (slice_set xs i x) i y ≡ slice_set xs i y
 set_twice [] i x y = refl
@@ -121,19 +121,19 @@ fresh-holding g a c wanted there =
 module _ (g : Geometry) (a : Arena) (wanted : ℕ) (what : Use) where
   pub gives-held : (spot : ℕ × ℕ) (pages : ℕ) (new : Arena) → first_holding g a wanted (walk a.lists) ≡ Some spot →
       wanted ≡ pages → new ≡ with_run g a spot.0 spot.1 pages what →
-      GivesSpot (take_run g a wanted what) a new (Some spot)
+      GivesYielded (take_run g a wanted what) a new (Some spot)
   gives-held spot pages new held same made =
       rw held (refl, made ∙ ap (λ n. with_run g a spot.0 spot.1 n what) (sym same))
 
   pub gives-too_many : (c : ℕ) → first_holding g a wanted (walk a.lists) ≡ None → first_unused a.chunks ≡ Some c →
-      c < length a.chunks → chunk_pages g < wanted → GivesSpot (take_run g a wanted what) a a None
+      c < length a.chunks → chunk_pages g < wanted → GivesYielded (take_run g a wanted what) a a None
   gives-too_many c held unused there more =
       let none : nat_le wanted (chunk_pages g) ≡ false = lt-leb wanted (chunk_pages g) more in
       rw (held, unused, fresh-holding g a c wanted there, none) (refl, refl)
 
   pub gives-opened : (c pages : ℕ) (new : Arena) → first_holding g a wanted (walk a.lists) ≡ None →
       first_unused a.chunks ≡ Some c → c < length a.chunks → wanted ≡ pages → pages ≤ chunk_pages g →
-      new ≡ with_run g (opened g a c) c 0 pages what → GivesSpot (take_run g a wanted what) a new (Some (c, 0))
+      new ≡ with_run g (opened g a c) c 0 pages what → GivesYielded (take_run g a wanted what) a new (Some (c, 0))
   gives-opened c pages new held unused there same few made =
       let some : nat_le wanted (chunk_pages g) ≡ true = le-leb wanted (chunk_pages g) (omega (arith, same, few)) in
       rw (held, unused, fresh-holding g a c wanted there, some)

@@ -5,8 +5,8 @@ use Rattle.size_classes.specs.Sizes.{Geometry, page_of, is_small, pages_of}
 use Rattle.size_classes.specs.Pages.{Run, Free, Used, pages_in, replaced, run_at}
 use Rattle.size_classes.specs.Elements.{Elements, new_elements, next_element}
 use Rattle.pool_law.specs.Chunks.{Chunk, Use, Whole, Sub}
-use Rattle.pool_law.specs.Arenas.{Arena, Spotted, chunk_at, elements_in, elements_at, with_front, front_of, take_run, take_element, take_class}
-use Rattle.object_steps.specs.Moves.{GivesSpot}
+use Rattle.pool_law.specs.Arenas.{Arena, Yielded, chunk_at, elements_in, elements_at, with_front, front_of, take_run, take_element, take_class}
+use Rattle.object_steps.specs.Moves.{GivesYielded}
 use Rattle.object_steps.proofs.ArenaLemmas.{run_at-replaced}
 
 -- a spot, if there is one
@@ -79,11 +79,11 @@ new-next (suc n) some =
 module _ (g : Geometry) (a : Arena) (class : ℕ) where
   pub gives-new : (pages count place page : ℕ) (next mid new : Arena) (r : Option (ℕ × ℕ)) →
       front_of a class ≡ [] → 0 < count →
-      GivesSpot (take_run g a pages (Sub class (new_elements count))) a next (Some (place, page)) →
+      GivesYielded (take_run g a pages (Sub class (new_elements count))) a next (Some (place, page)) →
       run_at page (chunk_at next place) ≡ Some (Used pages (Sub class (new_elements count))) →
       mid ≡ with_front next class ((place, page) ∷ front_of next class) →
-      GivesSpot (take_element g mid class (place, page)) mid new r →
-      GivesSpot
+      GivesYielded (take_element g mid class (place, page)) mid new r →
+      GivesYielded
       (option_and_then (λ t. take_element g (with_front t.2 class ((t.0, t.1) ∷ front_of t.2 class)) class (t.0, t.1))
       (take_run g a pages (Sub class (new_elements count)))) a new r
   gives-new pages count place page next mid new r empty some run begins made element =
@@ -92,13 +92,13 @@ module _ (g : Geometry) (a : Arena) (class : ℕ) where
       here : elements_at mid class place page ≡ Some (new_elements count)
       here = rw (made, begins, eq-eqb class class refl) refl
 
-      there : (o : Option Spotted) → take_element g mid class (place, page) ≡ o → GivesSpot o mid new r
-          → GivesSpot o a new r
+      there : (o : Option Yielded) → take_element g mid class (place, page) ≡ o → GivesYielded o mid new r
+          → GivesYielded o a new r
       there None e h = absurd (cc (rw (here, new-next count some) at e))
       there (Some u) e h = h
 
-      go : (o : Option Spotted) → GivesSpot o a next (Some (place, page)) →
-          GivesSpot
+      go : (o : Option Yielded) → GivesYielded o a next (Some (place, page)) →
+          GivesYielded
           (option_and_then (λ t. take_element g (with_front t.2 class ((t.0, t.1) ∷ front_of t.2 class)) class
           (t.0, t.1)) o)
           a new r
@@ -108,27 +108,28 @@ module _ (g : Geometry) (a : Arena) (class : ℕ) where
           let page_is : page ≡ t.1 = ap (λ o. (spot_in o).1) h.0 in
           let mid_is : mid ≡ with_front t.2 class ((t.0, t.1) ∷ front_of t.2 class) =
           made ∙ (λ i. with_front (h.1 i) class ((place_is i, page_is i) ∷ front_of (h.1 i) class)) in
-          subst (λ o. GivesSpot o a new r) (λ i. take_element g (mid_is i) class (place_is i, page_is i))
+          subst (λ o. GivesYielded o a new r) (λ i. take_element g (mid_is i) class (place_is i, page_is i))
           (there (take_element g mid class (place, page)) refl element)
 
 -- ---- A normal class.
 
 module _ (g : Geometry) (a b : Arena) (class : ℕ) (normal : is_small g class ≡ false) where
-  pub gives-normal : (place page : ℕ) → GivesSpot (take_run g a (pages_of g class) Whole) a b (Some (place, page)) →
-      GivesSpot (take_class g a class) a b (Some (place, page_of g * page))
+  pub gives-normal : (place page : ℕ) → GivesYielded (take_run g a (pages_of g class) Whole) a b (Some (place, page)) →
+      GivesYielded (take_class g a class) a b (Some (place, page_of g * page))
   gives-normal place page h = rw normal (go (take_run g a (pages_of g class) Whole) h)
     where
-      go : (o : Option Spotted) → GivesSpot o a b (Some (place, page)) →
-          GivesSpot (option_map (λ (t : Spotted). (t.0, page_of g * t.1, t.2)) o) a b (Some (place, page_of g * page))
+      go : (o : Option Yielded) → GivesYielded o a b (Some (place, page)) →
+          GivesYielded (option_map (λ (t : Yielded). (t.0, page_of g * t.1, t.2)) o) a b (Some
+          (place, page_of g * page))
       go None h = absurd (cc h.0)
       go (Some t) h = (ap (option_map (λ (s : ℕ × ℕ). (s.0, page_of g * s.1))) h.0, h.1)
 
-  pub gives-no_normal : GivesSpot (take_run g a (pages_of g class) Whole) a b None
-      → GivesSpot (take_class g a class) a b None
+  pub gives-no_normal : GivesYielded (take_run g a (pages_of g class) Whole) a b None
+      → GivesYielded (take_class g a class) a b None
   gives-no_normal h = rw normal (go (take_run g a (pages_of g class) Whole) h)
     where
-      go : (o : Option Spotted) → GivesSpot o a b None →
-          GivesSpot (option_map (λ (t : Spotted). (t.0, page_of g * t.1, t.2)) o) a b None
+      go : (o : Option Yielded) → GivesYielded o a b None →
+          GivesYielded (option_map (λ (t : Yielded). (t.0, page_of g * t.1, t.2)) o) a b None
       go None h = h
       go (Some t) h = absurd (cc h.0)
 

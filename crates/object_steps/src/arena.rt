@@ -4,7 +4,7 @@ ghost use Rattle.std.specs.Prelude.{◌≡◌, ◌≤◌, ◌^◌, [], ◌∷◌
 ghost use Rattle.std.specs.Prelude.{slice_get, slice_set, IfOk, OnOk};
 ghost use Rattle.pool_law.specs.Caches.{if_so};
 ghost use Rattle.pool_law.specs.Arenas.{new_arena, chunk_at, front_of, with_front};
-ghost use Rattle.pool_law.specs.Arenas.{without_spot, is_alone};
+ghost use Rattle.pool_law.specs.Arenas.{without_subpage, is_alone};
 ghost use Rattle.pool_law.specs.Arenas.{arena_step, chunk_end, chunk_ends};
 
 mod gives;
@@ -192,7 +192,7 @@ impl Arena {
     // A subpage leaves the front of its class.
     fn drop_subpage(&mut self, class: u32, chunk: u32, page: u32)
         ensures { self.new
-            ≡ with_front self.old class (without_spot chunk page (front_of self.old class)) }
+            ≡ with_front self.old class (without_subpage chunk page (front_of self.old class)) }
     {
         let index = class as usize;
         if index < self.subpages.len() {

@@ -1,7 +1,7 @@
 //! The subpages of a class that have a free element.
 
 ghost use Rattle.std.specs.Prelude.{◌≡◌, [], ◌∷◌, slice_get, OnOk};
-ghost use Rattle.pool_law.specs.Arenas.{without_spot, is_alone};
+ghost use Rattle.pool_law.specs.Arenas.{without_subpage, is_alone};
 
 use std::alloc::{AllocError, Global};
 use std::marker::Model;
@@ -47,7 +47,7 @@ impl SubpageList {
 
     /// A subpage leaves.
     pub fn remove(&mut self, chunk: u32, page: u32)
-        ensures { self.new ≡ without_spot chunk page self.old }
+        ensures { self.new ≡ without_subpage chunk page self.old }
     {
         self.subpages
             .retain(|subpage| !(subpage.0 == chunk && subpage.1 == page));

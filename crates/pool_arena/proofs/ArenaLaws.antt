@@ -5,7 +5,7 @@ use Rattle.size_classes.specs.Sizes.{Geometry, IsPage, class_count, is_small}
 use Rattle.size_classes.proofs.Geometries.{page_shift-is}
 use Rattle.size_classes.proofs.SmallClasses.{small_below}
 use Rattle.pool_law.specs.declared.id.RegionId.{RegionId}
-use Rattle.pool_law.specs.Arenas.{Arena, Spotted, chunk_at, take_class, given_place}
+use Rattle.pool_law.specs.Arenas.{Arena, Yielded, chunk_at, take_class, given_place}
 use Rattle.arena_laws.specs.Orderly.{IsOrderly}
 use Rattle.arena_laws.specs.Slots.{IsSlot}
 use Rattle.arena_laws.proofs.OrderlyTakes.{take_class-orderly}
@@ -37,7 +37,7 @@ given-orderly old new r offset o slot same becomes =
 pub taken-places : (old new : StockState) (class chunk at : ℕ)
     → Yields old (λ a. take_class old.geometry a class) chunk at new → length new.chunks ≡ length old.chunks
 taken-places old new class chunk at yields =
-    subst (λ (o : Option Spotted). IfSome o (Keeps (length old.chunks))) (yields.law 0 [])
+    subst (λ (o : Option Yielded). IfSome o (Keeps (length old.chunks))) (yields.law 0 [])
     (class-keeps old.geometry (arena_in old) class)
 
 pub given-places : (old new : StockState) (class chunk offset : ℕ)

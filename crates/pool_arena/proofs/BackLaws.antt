@@ -18,7 +18,7 @@ use Rattle.pool_arena.specs.Held.{stock_in, IsStock}
 use Rattle.pool_arena.specs.declared.stock.ChunkStock.TheInside.{Inside}
 use Rattle.pool_arena.proofs.ListLaws.{found-is}
 use Rattle.pool_arena.proofs.StockLaws.{sizes_of, place-chunk_at, place-geometry, place-origin}
-use Rattle.pool_arena.proofs.FrontsLaws.{front_of-is, spots-set}
+use Rattle.pool_arena.proofs.FrontsLaws.{front_of-is, subpages-set}
 use Rattle.pool_arena.proofs.ElementLaws.{front-choice, elements-chunks, elements-grounds}
 use Rattle.pool_arena.proofs.GiveLaws.{begins-within}
 
@@ -70,14 +70,14 @@ pub back-room : (s : Inside) (is : IsStock s) (class c page index : ℕ) (piece 
     → IsElementOutOf (stock_in s) class c page index piece
     → slice_get s.fronts.items class ≡ Some f → is_small s.classes class ≡ true
     → (o : IsElementOutOf (stock_in s) class c page index piece) → is_full o.elements ≡ true
-    → length f.spots < f.room
+    → length f.subpages < f.room
 back-room s is class c page index piece f _ found small o full =
     let room = is.fronts.room class f small found in
-    let spots : length (front_of (arena_in (stock_in s)) class)
-    ≡ length f.spots = ap length (front_of-is s class f found) in
+    let subpages : length (front_of (arena_in (stock_in s)) class)
+    ≡ length f.subpages = ap length (front_of-is s class f found) in
     let places : length (stock_in s).chunks * chunk_pages s.classes ≡ length s.places.items * chunk_pages s.classes =
     ap (λ (n : ℕ). n * chunk_pages s.classes) (length-map s.places.items (λ (p : PlaceState). p.chunk)) in
-    omega (arith, o.room full, spots, places, room)
+    omega (arith, o.room full, subpages, places, room)
 
 -- the fronts once the element is back: the subpage enters if it was full
 abbrev pub fronts_back : StockState → ℕ → ℕ → ℕ → Elements → List (List (ℕ × ℕ))
@@ -86,10 +86,10 @@ fronts_back s class c page e =
 
 pub full-back : (s : Inside) (class c page : ℕ) (e : Elements) (f h : SubpagesState) (items : List SubpagesState)
     → slice_get s.fronts.items class ≡ Some f
-    → h.spots ≡ (c, page) ∷ f.spots → items ≡ slice_set s.fronts.items class h → is_full e ≡ true
-    → map (λ (z : SubpagesState). z.spots) items ≡ fronts_back (stock_in s) class c page e
+    → h.subpages ≡ (c, page) ∷ f.subpages → items ≡ slice_set s.fronts.items class h → is_full e ≡ true
+    → map (λ (z : SubpagesState). z.subpages) items ≡ fronts_back (stock_in s) class c page e
 full-back s class c page e f h items found entered is full =
-    ap (map (λ (z : SubpagesState). z.spots)) is ∙ spots-set s.fronts.items class h
+    ap (map (λ (z : SubpagesState). z.subpages)) is ∙ subpages-set s.fronts.items class h
     ∙ ap (slice_set (stock_in s).fronts class)
     (entered ∙ ap (λ (xs : List (ℕ × ℕ)). (c, page) ∷ xs) (sym (front_of-is s class f found)))
     ∙ sym (ap (λ (b : Bool). if b then slice_set (stock_in s).fronts class

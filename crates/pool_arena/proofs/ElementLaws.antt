@@ -11,7 +11,7 @@ use Rattle.size_classes.specs.Elements.{Elements, is_full, next_element, with_ou
 use Rattle.size_classes.proofs.Runs.{Begins-run_at}
 use Rattle.pool_law.specs.Chunks.{Chunk, Use, Whole, Sub, usage}
 use Rattle.pool_law.specs.ChunkLists.{list_of}
-use Rattle.pool_law.specs.Arenas.{Arena, chunk_at, elements_in, front_of, without_spot, element_taken, take_element}
+use Rattle.pool_law.specs.Arenas.{Arena, chunk_at, elements_in, front_of, without_subpage, element_taken, take_element}
 use Rattle.pool_chunk.specs.ChunkStates.{with_elements, HasSubpage}
 use Rattle.chunk_list.specs.Listing.{Listing}
 use Rattle.chunk_list.specs.Settling.{IsWithin}
@@ -20,7 +20,7 @@ use Rattle.pool_arena.specs.SubpageLists.{SubpagesState}
 use Rattle.pool_arena.specs.Stocks.{StockState, arena_with, arena_in, IsOpen, GivesPlace}
 use Rattle.pool_arena.specs.Held.{stock_in, HasRoomAt, IsStock}
 use Rattle.pool_arena.specs.declared.stock.ChunkStock.TheInside.{Inside}
-use Rattle.pool_arena.proofs.FrontsLaws.{front_of-is, spots-set}
+use Rattle.pool_arena.proofs.FrontsLaws.{front_of-is, subpages-set}
 use Rattle.pool_arena.proofs.UsageLaws.{usage-same, elements-free}
 use Rattle.pool_arena.proofs.StockLaws.{sizes_of, Written, place-chunk_at, place-geometry, place-origin, written-grounds, written-chunks, written-held, written-settled}
 
@@ -170,24 +170,24 @@ front-choice false b fronts = refl
 -- the fronts once a subpage has these elements: it leaves them if it is full
 abbrev pub fronts_after : StockState → ℕ → ℕ → ℕ → Elements → List (List (ℕ × ℕ))
 fronts_after s class c page e =
-    if is_full e then slice_set s.fronts class (without_spot c page (front_of (arena_in s) class)) else s.fronts
+    if is_full e then slice_set s.fronts class (without_subpage c page (front_of (arena_in s) class)) else s.fronts
 
 -- a full subpage leaves its front, and another stays
 pub full-fronts : (s : Inside) (class c page : ℕ) (e : Elements) (f h : SubpagesState) (items : List SubpagesState)
     → slice_get s.fronts.items class ≡ Some f
-    → h.spots ≡ without_spot c page f.spots → items ≡ slice_set s.fronts.items class h → is_full e ≡ true
-    → map (λ (z : SubpagesState). z.spots) items ≡ fronts_after (stock_in s) class c page e
+    → h.subpages ≡ without_subpage c page f.subpages → items ≡ slice_set s.fronts.items class h → is_full e ≡ true
+    → map (λ (z : SubpagesState). z.subpages) items ≡ fronts_after (stock_in s) class c page e
 full-fronts s class c page e f h items found left is full =
-    ap (map (λ (z : SubpagesState). z.spots)) is ∙ spots-set s.fronts.items class h
-    ∙ ap (slice_set (stock_in s).fronts class) (left ∙ ap (without_spot c page) (sym (front_of-is s class f found)))
+    ap (map (λ (z : SubpagesState). z.subpages)) is ∙ subpages-set s.fronts.items class h
+    ∙ ap (slice_set (stock_in s).fronts class) (left ∙ ap (without_subpage c page) (sym (front_of-is s class f found)))
     ∙ sym (ap (λ (b : Bool). if b then slice_set (stock_in s).fronts class
-    (without_spot c page (front_of (arena_in (stock_in s)) class)) else (stock_in s).fronts) full)
+    (without_subpage c page (front_of (arena_in (stock_in s)) class)) else (stock_in s).fronts) full)
 
 pub other-fronts : (s : Inside) (class c page : ℕ) (e : Elements) → is_full e ≡ false
     → (stock_in s).fronts ≡ fronts_after (stock_in s) class c page e
 other-fronts s class c page e other =
     sym (ap (λ (b : Bool). if b then slice_set (stock_in s).fronts class
-    (without_spot c page (front_of (arena_in (stock_in s)) class)) else (stock_in s).fronts) other)
+    (without_subpage c page (front_of (arena_in (stock_in s)) class)) else (stock_in s).fronts) other)
 
 module _ (s t : Inside) (is : IsStock s) (class c page : ℕ) (x y : PlaceState)
     (found : slice_get s.places.items c ≡ Some x) (o : IsOpen (stock_in s) class c page)
@@ -221,7 +221,7 @@ module _ (s t : Inside) (is : IsStock s) (class c page : ℕ) (x y : PlaceState)
                       chunks = slice_set a.chunks c
                           (Some (with_elements page class (with_out e k) (chunk_at a c)));
                     })
-                    (slice_set a.fronts class (without_spot c page (front_of a class))))
+                    (slice_set a.fronts class (without_subpage c page (front_of a class))))
                     ∙ (λ i. Some (
                       c,
                       sym start i,

@@ -10,17 +10,17 @@ use Rattle.size_classes.specs.Sizes.{Geometry, chunk_pages, class_count, is_smal
 use Rattle.pool_law.specs.Arenas.{front_of, with_subpage}
 use Rattle.pool_law.proofs.ListLemmas.{slice_get-set_same, slice_get-set_other, slice_get-below}
 use Rattle.arena_laws.proofs.ChunkSteps.{same_or-not}
-use Rattle.pool_arena.specs.SubpageLists.{SubpagesState, with_spots}
+use Rattle.pool_arena.specs.SubpageLists.{SubpagesState, with_subpages}
 use Rattle.pool_arena.specs.Stocks.{StockState, arena_in, Becomes}
 use Rattle.pool_arena.specs.Held.{stock_in, HasRoomAt, IsStock}
 use Rattle.pool_arena.specs.declared.stock.ChunkStock.TheInside.{Inside}
 
 -- the subpages of a class
 pub front_of-is : (s : Inside) (class : ℕ) (f : SubpagesState) → slice_get s.fronts.items class ≡ Some f
-    → front_of (arena_in (stock_in s)) class ≡ f.spots
+    → front_of (arena_in (stock_in s)) class ≡ f.subpages
 front_of-is s class f found =
-    ap (λ o. unwrap_or o []) (slice_get-map (λ (h : SubpagesState). h.spots) s.fronts.items class
-    ∙ ap (option_map (λ (h : SubpagesState). h.spots)) found)
+    ap (λ o. unwrap_or o []) (slice_get-map (λ (h : SubpagesState). h.subpages) s.fronts.items class
+    ∙ ap (option_map (λ (h : SubpagesState). h.subpages)) found)
 
 -- a front with other subpages leaves the others room
 pub rooms-set : (pages : ℕ) (g : Geometry) (fs : List SubpagesState) (class : ℕ) (f h : SubpagesState)
@@ -44,10 +44,10 @@ rooms-set pages g fs class f h has found same =
         omega (arith, has.room k f small found_k, room, same)
     by k x small at (inr ne) = has.room k x small (sym (slice_get-set_other fs class k h ne) ∙ at)
 
-pub spots-set : (fs : List SubpagesState) (class : ℕ) (h : SubpagesState)
-    → map (λ (f : SubpagesState). f.spots) (slice_set fs class h)
-    ≡ slice_set (map (λ (f : SubpagesState). f.spots) fs) class h.spots
-spots-set fs class h = map-set (λ (f : SubpagesState). f.spots) fs class h
+pub subpages-set : (fs : List SubpagesState) (class : ℕ) (h : SubpagesState)
+    → map (λ (f : SubpagesState). f.subpages) (slice_set fs class h)
+    ≡ slice_set (map (λ (f : SubpagesState). f.subpages) fs) class h.subpages
+subpages-set fs class h = map-set (λ (f : SubpagesState). f.subpages) fs class h
 
 -- an arena with other fronts
 abbrev pub with_fronts : Inside → Vec SubpagesState Global → Inside
@@ -83,7 +83,7 @@ front-index s is g class same less = omega (arith, is.fronts.count, ap class_cou
 -- the subpages of a class, as a caller sees them
 pub front-seen : (s : Inside) (v : StockState) (class : ℕ) (f : SubpagesState) → IsStock s → stock_in s ≡ v
     → class < class_count v.geometry → f ≡ get_or s.fronts.items class f
-    → front_of (arena_in v) class ≡ f.spots
+    → front_of (arena_in v) class ≡ f.subpages
 front-seen s v class f is same less here =
     ap (λ (w : StockState). front_of (arena_in w) class) (sym same)
     ∙ front_of-is s class f (front-found s is v.geometry class f (ap (λ (w : StockState). w.geometry) same) less here)
@@ -91,9 +91,9 @@ front-seen s v class f is same less here =
 -- a front without a subpage has room for one
 pub front-room : (s : Inside) (is : IsStock s) (class : ℕ) (f : SubpagesState) → slice_get s.fronts.items class ≡ Some f
     → is_small s.classes class ≡ true
-    → front_of (arena_in (stock_in s)) class ≡ [] → length f.spots < f.room
+    → front_of (arena_in (stock_in s)) class ≡ [] → length f.subpages < f.room
 front-room s is class f found small none =
-    let empty : length f.spots ≡ 0 = ap length (sym (front_of-is s class f found) ∙ none) in
+    let empty : length f.subpages ≡ 0 = ap length (sym (front_of-is s class f found) ∙ none) in
     let room = is.fronts.room class f small found in
     let places = le-mul_of_pos_right (length s.places.items) (pow_pos s.classes.order) in
     omega (arith, empty, room, places, is.few.0)
@@ -101,7 +101,7 @@ front-room s is class f found small none =
 -- a subpage that enters is the front
 pub enter-law : (s : Inside) (class chunk page : ℕ) (f h : SubpagesState) (v : Vec SubpagesState Global)
     → slice_get s.fronts.items class ≡ Some f
-    → h ≡ with_spots f ((chunk, page) ∷ f.spots) → v.items ≡ slice_set s.fronts.items class h
+    → h ≡ with_subpages f ((chunk, page) ∷ f.subpages) → v.items ≡ slice_set s.fronts.items class h
     → Becomes (stock_in s) (λ a. with_subpage class (chunk, page, a)) (stock_in (with_fronts s v))
 enter-law s class chunk page f h v found is items =
     record {
@@ -109,10 +109,10 @@ enter-law s class chunk page f h v found is items =
         chunks = (stock_in s).chunks;
         lists = s.lists.lists;
         fronts =
-            (ap (λ (spots : List (ℕ × ℕ)). slice_set (stock_in s).fronts class ((chunk, page) ∷ spots))
+            (ap (λ (subpages : List (ℕ × ℕ)). slice_set (stock_in s).fronts class ((chunk, page) ∷ subpages))
             (front_of-is s class f found)
-            ∙ ap (λ (x : SubpagesState). slice_set (stock_in s).fronts class x.spots) (sym is)
-            ∙ sym (ap (map (λ (x : SubpagesState). x.spots)) items ∙ spots-set s.fronts.items class h)) i;
+            ∙ ap (λ (x : SubpagesState). slice_set (stock_in s).fronts class x.subpages) (sym is)
+            ∙ sym (ap (map (λ (x : SubpagesState). x.subpages)) items ∙ subpages-set s.fronts.items class h)) i;
         takings = takings;
         out = out;
       };

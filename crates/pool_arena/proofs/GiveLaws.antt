@@ -47,7 +47,7 @@ module _ (s t : Inside) (is : IsStock s) (c page n : ℕ) (what : Use) (x y q : 
             (chunk_at (arena_in (stock_in s)) c) (runs_of y) more,
       )
 
-  pub given-law : (fronts : List (List (ℕ × ℕ))) → map (λ (f : SubpagesState). f.spots) t.fronts.items ≡ fronts
+  pub given-law : (fronts : List (List (ℕ × ℕ))) → map (λ (f : SubpagesState). f.subpages) t.fronts.items ≡ fronts
       → Becomes (stock_in s) (λ a. run_given s.classes (record a { fronts = fronts }) c page) (stock_in t)
   given-law fronts fronts_are =
       settle-down s t c x q (runs_of y) d is fronts fronts_are sunk page

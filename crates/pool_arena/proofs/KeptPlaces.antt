@@ -8,7 +8,7 @@ use Rattle.size_classes.specs.Pages.{Used, pages_in, replaced, run_start, taken_
 use Rattle.size_classes.specs.Elements.{Elements, new_elements, next_element, with_out, with_back, is_full, is_idle}
 use Rattle.pool_law.specs.Chunks.{Use, Whole, Sub, usage, new_chunk}
 use Rattle.pool_law.specs.ChunkLists.{walk, list_of, down_to}
-use Rattle.pool_law.specs.Arenas.{Arena, Spotted, chunk_at, front_of, with_front, with_elements, opened, first_holding, first_unused, run_from, run_from_new, run_taken, take_run, element_taken, take_element, elements_at, with_subpage, take_small, take_class, unless_gone, without_spot, run_given, is_alone, idle_given, element_given, small_given, given_place}
+use Rattle.pool_law.specs.Arenas.{Arena, Yielded, chunk_at, front_of, with_front, with_elements, opened, first_holding, first_unused, run_from, run_from_new, run_taken, take_run, element_taken, take_element, elements_at, with_subpage, take_small, take_class, unless_gone, without_subpage, run_given, is_alone, idle_given, element_given, small_given, given_place}
 
 mapped : {X Y : Type 0} (o : Option X) (f : X → Y) (Q : Y → Type 0) → ((x : X) → Q (f x)) → IfSome (option_map f o) Q
 mapped None f Q h = tt
@@ -28,7 +28,7 @@ abbrev pub places : Arena → ℕ
 places a = length a.chunks
 
 -- a taking leaves as many
-abbrev pub Keeps : ℕ → Spotted → Type 0
+abbrev pub Keeps : ℕ → Yielded → Type 0
 Keeps n t = places t.2 ≡ n
 
 module _ (g : Geometry) where
@@ -68,11 +68,12 @@ module _ (g : Geometry) where
           let b : Arena = with_elements a spot.0 spot.1 class (with_out e k) in
           let same : places b ≡ places a = length-set a.chunks spot.0
           (Some (replaced spot.1 (λ r. Used (pages_in r) (Sub class (with_out e k)) ∷ []) (chunk_at a spot.0))) in
-          cond_both (is_full (with_out e k)) (with_front b class (without_spot spot.0 spot.1 (front_of b class))) b
+          cond_both (is_full (with_out e k)) (with_front b class (without_subpage spot.0 spot.1 (front_of b class))) b
           (λ z. places z ≡ places a) (λ _. same) (λ _. same)
 
-  small-keeps : (a : Arena) (class : ℕ) (spots : List (ℕ × ℕ)) → IfSome (take_small g a class spots) (Keeps (places a))
-  small-keeps a class (spot ∷ spots) = element-keeps a class spot
+  small-keeps : (a : Arena) (class : ℕ) (subpages : List (ℕ × ℕ))
+      → IfSome (take_small g a class subpages) (Keeps (places a))
+  small-keeps a class (spot ∷ subpages) = element-keeps a class spot
   small-keeps a class [] =
       chained (take_run g a (subpage_pages g class) (Sub class (new_elements (element_count g class))))
       (Keeps (places a))
@@ -91,7 +92,7 @@ module _ (g : Geometry) where
       (λ _. small-keeps a class (front_of a class))
       (λ _. by (take_run g a (pages_of g class) Whole) (take_run-keeps a (pages_of g class) Whole))
     where
-      by : (o : Option Spotted) → IfSome o (Keeps (places a))
+      by : (o : Option Yielded) → IfSome o (Keeps (places a))
           → IfSome (option_map (λ t. (t.0, page_of g * t.1, t.2)) o) (Keeps (places a))
       by None same = tt
       by (Some t) same = same
@@ -104,8 +105,8 @@ module _ (g : Geometry) where
   idle-keeps : (a : Arena) (class c page : ℕ) → places (idle_given g a class c page) ≡ places a
   idle-keeps a class c page =
       cond_both (is_alone (front_of a class)) a
-      (run_given g (with_front a class (without_spot c page (front_of a class))) c page) (λ z. places z ≡ places a)
-      (λ _. refl) (λ _. given-keeps (with_front a class (without_spot c page (front_of a class))) c page)
+      (run_given g (with_front a class (without_subpage c page (front_of a class))) c page) (λ z. places z ≡ places a)
+      (λ _. refl) (λ _. given-keeps (with_front a class (without_subpage c page (front_of a class))) c page)
 
   element_given-keeps : (a : Arena) (class c page k : ℕ) (e : Elements)
       → places (element_given g a class c page k e) ≡ places a

@@ -51,13 +51,13 @@ below-at (suc n) k d less = by (last-or k n less) (below-at n k d)
         let at : k ≡ length (below n) = e ∙ sym (length-below n) in
         ap (λ (j : ℕ). get_or (below n ++ n ∷ []) j d) at ∙ get_or-append_seam (below n) n [] d ∙ sym e
 
-no-spots : (g : Geometry) (room n : ℕ) → map (λ (f : SubpagesState). f.spots) (map (front_for g room) (below n))
+no-subpages : (g : Geometry) (room n : ℕ) → map (λ (f : SubpagesState). f.subpages) (map (front_for g room) (below n))
     ≡ replicate n []
-no-spots g room zero = refl
-no-spots g room (suc n) =
-    ap (map (λ (f : SubpagesState). f.spots)) (map-append (front_for g room) (below n) (n ∷ []))
-    ∙ map-append (λ (f : SubpagesState). f.spots) (map (front_for g room) (below n)) (front_for g room n ∷ [])
-    ∙ ap (λ (xs : List (List (ℕ × ℕ))). xs ++ [] ∷ []) (no-spots g room n)
+no-subpages g room zero = refl
+no-subpages g room (suc n) =
+    ap (map (λ (f : SubpagesState). f.subpages)) (map-append (front_for g room) (below n) (n ∷ []))
+    ∙ map-append (λ (f : SubpagesState). f.subpages) (map (front_for g room) (below n)) (front_for g room n ∷ [])
+    ∙ ap (λ (xs : List (List (ℕ × ℕ))). xs ++ [] ∷ []) (no-subpages g room n)
     ∙ replicate-append-replicate n 1 [] ∙ ap (λ (k : ℕ). replicate k []) (add-one n)
 
 -- the fronts at first have room
@@ -124,7 +124,7 @@ module _ (s : Inside) (order page chunks room : ℕ) (page_is : s.page ≡ page)
         ∙ ap (λ (n : ℕ). replicate n None) count) i;
     lists = no_lists i;
     fronts =
-        (ap (map (λ (f : SubpagesState). f.spots)) fronts ∙ no-spots s.classes room (class_count s.classes)
+        (ap (map (λ (f : SubpagesState). f.subpages)) fronts ∙ no-subpages s.classes room (class_count s.classes)
         ∙ ap (λ (g : Geometry). replicate (class_count g) []) classes) i;
     takings = 0;
     out = [];

@@ -13,8 +13,8 @@ use Rattle.size_classes.proofs.Runs.{EachRun-Begins, replaced-EachRun, merged-Ea
 use Rattle.pool_law.specs.declared.report.ListName.{ListName}
 use Rattle.pool_law.specs.Chunks.{Chunk, Use, Whole, Sub, IsChunk, usage, new_chunk}
 use Rattle.pool_law.specs.ChunkLists.{list_of, down_to}
-use Rattle.pool_law.specs.Arenas.{Arena, chunk_at, front_of, without_spot, unless_gone, run_given}
-use Rattle.arena_laws.specs.Orderly.{IsOrderly, IsAtRest, ChunkAtRest, has_spot, chunk_of}
+use Rattle.pool_law.specs.Arenas.{Arena, chunk_at, front_of, without_subpage, unless_gone, run_given}
+use Rattle.arena_laws.specs.Orderly.{IsOrderly, IsAtRest, ChunkAtRest, has_subpage, chunk_of}
 use Rattle.arena_laws.proofs.ChunkSteps.{same_or-not}
 use Rattle.arena_laws.proofs.ElementSteps.{some-elements}
 use Rattle.arena_laws.proofs.FrontSteps.{spot-first, test-here, front-same, front-other}
@@ -83,27 +83,28 @@ back-rest g a c page r ne b rest d = by (same_or-not d c)
 
 -- ---- the first subpage of a class
 
-without-first : (c page : ℕ) (spots : List (ℕ × ℕ))
-    → without_spot c page ((c, page) ∷ spots) ≡ without_spot c page spots
-without-first c page spots =
-    ap (λ (b : Bool). if not b then (c, page) ∷ without_spot c page spots else without_spot c page spots)
+without-first : (c page : ℕ) (subpages : List (ℕ × ℕ))
+    → without_subpage c page ((c, page) ∷ subpages) ≡ without_subpage c page subpages
+without-first c page subpages =
+    ap (λ (b : Bool). if not b then (c, page) ∷ without_subpage c page subpages else without_subpage c page subpages)
     (test-here c page)
 
-without-length : (c page : ℕ) (spots : List (ℕ × ℕ)) → length (without_spot c page spots) ≤ length spots
+without-length : (c page : ℕ) (subpages : List (ℕ × ℕ)) → length (without_subpage c page subpages) ≤ length subpages
 without-length c page [] = omega arith
-without-length c page (s ∷ spots) =
-    cond_both (not ((s.0 == c) && (s.1 == page))) (s ∷ without_spot c page spots) (without_spot c page spots)
-    (λ z. length z ≤ length (s ∷ spots))
-    (λ _. omega (arith, without-length c page spots))
-    (λ _. omega (arith, without-length c page spots))
+without-length c page (s ∷ subpages) =
+    cond_both (not ((s.0 == c) && (s.1 == page))) (s ∷ without_subpage c page subpages)
+    (without_subpage c page subpages)
+    (λ z. length z ≤ length (s ∷ subpages))
+    (λ _. omega (arith, without-length c page subpages))
+    (λ _. omega (arith, without-length c page subpages))
 
-module _ (v : StockState) (resting : IsResting v) (class c page : ℕ) (spots : List (ℕ × ℕ))
+module _ (v : StockState) (resting : IsResting v) (class c page : ℕ) (subpages : List (ℕ × ℕ))
     (small : is_small v.geometry class ≡ true)
-    (front : front_of (arena_in v) class ≡ (c, page) ∷ spots) where
+    (front : front_of (arena_in v) class ≡ (c, page) ∷ subpages) where
   roomy : Roomy (arena_in v) class c page
   roomy =
       roomy-of (arena_in v) class c page
-      ((resting.orderly.spotted class c page small).0 (ap (has_spot c page) front ∙ spot-first c page spots))
+      ((resting.orderly.in_list class c page small).0 (ap (has_subpage c page) front ∙ spot-first c page subpages))
 
   pub first-some : NoneEmpty (chunk_at (arena_in v) c)
   first-some = (resting.orderly.sound c).none_empty
@@ -148,16 +149,16 @@ module _ (v : StockState) (resting : IsResting v) (class c page : ℕ) (spots : 
     pub dropped-shorter : length (front_of (arena_in w) class) < length (front_of (arena_in v) class)
     dropped-shorter =
         let below = small-below v.geometry (arena_in v) class resting.orderly small in
-        let now : front_of (arena_in w) class ≡ without_spot c page spots =
+        let now : front_of (arena_in w) class ≡ without_subpage c page subpages =
         ap (λ (a : Arena). front_of a class) (sym dropped-is)
-        ∙ front-same (arena_in v) class (without_spot c page (front_of (arena_in v) class)) below
-        ∙ ap (without_spot c page) front ∙ without-first c page spots in
-        omega (arith, ap length now, ap length front, without-length c page spots)
+        ∙ front-same (arena_in v) class (without_subpage c page (front_of (arena_in v) class)) below
+        ∙ ap (without_subpage c page) front ∙ without-first c page subpages in
+        omega (arith, ap length now, ap length front, without-length c page subpages)
 
     pub dropped-other : (k : ℕ) → k ≢ class → front_of (arena_in w) k ≡ front_of (arena_in v) k
     dropped-other k other =
         ap (λ (a : Arena). front_of a k) (sym dropped-is)
-        ∙ front-other (arena_in v) class k (without_spot c page (front_of (arena_in v) class)) other
+        ∙ front-other (arena_in v) class k (without_subpage c page (front_of (arena_in v) class)) other
 
 -- ---- an arena without a front is all free
 
@@ -189,9 +190,9 @@ module _ (g : Geometry) (a : Arena) (o : IsOrderly g a) (rest : (c : ℕ) → Ch
         let idle : is_idle e ≡ true = run-rest (chunk_at a c) page (Used n (Sub class e)) (rest c) b in
         let room : is_full e ≡ false = idle-room e.out
         (omega (arith, fits.elements, some-elements g (o.sound c).page class fits.small)) idle in
-        let listed = (o.spotted class c page fits.small).1
+        let listed = (o.in_list class c page fits.small).1
         (has-room a class c page whole.none_empty (record { pages = n; elements = e; begins = b; room = room })) in
-        let both : false ≡ true = sym (ap (has_spot c page) (none class fits.small)) ∙ listed in
+        let both : false ≡ true = sym (ap (has_subpage c page) (none class fits.small)) ∙ listed in
         absurd (cc both)
 
     pub chunk-free : total_pages (chunk_at a c) ≤ free_pages (chunk_at a c)

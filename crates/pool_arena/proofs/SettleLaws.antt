@@ -105,7 +105,7 @@ module _ (s t : Inside) (c : ℕ) (x q : PlaceState) (runs : Chunk) (d : Settles
             ∙ (λ i. record {
               chunks = (ap (slice_set (stock_in s).chunks c) (sym stays) ∙ sym (written-chunks s t c x q d.written)) i;
               lists = sym up i;
-              fronts = ap (map (λ (f : SubpagesState). f.spots)) (sym fronts) i;
+              fronts = ap (map (λ (f : SubpagesState). f.subpages)) (sym fronts) i;
               takings = takings;
               out = out;
             });
@@ -114,7 +114,7 @@ module _ (s t : Inside) (c : ℕ) (x q : PlaceState) (runs : Chunk) (d : Settles
       }
 
   -- after one comes back, among these fronts
-  pub settle-down : (fronts : List (List (ℕ × ℕ))) → map (λ (f : SubpagesState). f.spots) t.fronts.items ≡ fronts
+  pub settle-down : (fronts : List (List (ℕ × ℕ))) → map (λ (f : SubpagesState). f.subpages) t.fronts.items ≡ fronts
       → usage s.classes runs < greatest d.here → (page : ℕ)
       → runs ≡ given_at page (chunk_at (arena_in (stock_in s)) c)
       → Becomes (stock_in s) (λ a. run_given s.classes (record a { fronts = fronts }) c page) (stock_in t)

@@ -15,7 +15,7 @@ use Rattle.pool_law.specs.ChunkLists.{list_of}
 use Rattle.pool_law.specs.Arenas.{Arena, chunk_at, elements_at, front_of, is_alone, run_given, idle_given, element_given, small_given, given_place}
 use Rattle.pool_law.proofs.ListLemmas.{slice_get-below}
 use Rattle.arena_laws.specs.Slots.{IsElement}
-use Rattle.arena_laws.specs.Orderly.{IsOrderly, has_spot, chunk_of}
+use Rattle.arena_laws.specs.Orderly.{IsOrderly, has_subpage, chunk_of}
 use Rattle.arena_laws.proofs.SlotLemmas.{element-inside}
 use Rattle.arena_laws.proofs.ChunkSteps.{size_at-pos}
 use Rattle.arena_laws.proofs.ArenaSteps.{chunk_at-below}
@@ -55,7 +55,7 @@ pub fronts-within : (g : Geometry) (a : Arena) (class : ℕ) → IsOrderly g a �
 fronts-within g a class o small =
     within-of (length a.chunks) (chunk_pages g) (front_of a class)
     (λ c p there.
-    let r = roomy-of a class c p ((o.spotted class c p small).0 there) in (
+    let r = roomy-of a class c p ((o.in_list class c p small).0 there) in (
       chunk_at-below a c p (Used r.pages (Sub class r.elements)) r.begins,
       run-inside g a c p
           (Used r.pages (Sub class r.elements)) o r.begins,
@@ -64,13 +64,13 @@ fronts-within g a class o small =
 -- a full subpage is not among them
 pub full-absent : (g : Geometry) (a : Arena) (class c p : ℕ) (e : Elements) → IsOrderly g a → is_small g class ≡ true
     → elements_at a class c p ≡ Some e → is_full e ≡ true
-    → has_spot c p (front_of a class) ≡ false
-full-absent g a class c p e o small here full = by (has_spot c p (front_of a class)) refl
+    → has_subpage c p (front_of a class) ≡ false
+full-absent g a class c p e o small here full = by (has_subpage c p (front_of a class)) refl
   where
-    by : (b : Bool) → has_spot c p (front_of a class) ≡ b → has_spot c p (front_of a class) ≡ false
+    by : (b : Bool) → has_subpage c p (front_of a class) ≡ b → has_subpage c p (front_of a class) ≡ false
     by false is = is
     by true is =
-        let r = (o.spotted class c p small).0 is in
+        let r = (o.in_list class c p small).0 is in
         let same : ◌≡◌ {A = Option Elements} (Some r.elements) (Some e) = sym r.here ∙ here in
         let is_same : r.elements ≡ e = cc same in
         absurd (cc (r.room, ap is_full is_same, full))

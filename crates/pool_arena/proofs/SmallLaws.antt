@@ -7,8 +7,8 @@ use Rattle.size_classes.proofs.Geometries.{page_shift-is}
 use Rattle.size_classes.proofs.SmallClasses.{small_below}
 use Rattle.pool_law.specs.declared.id.RegionId.{RegionId}
 use Rattle.pool_law.specs.Chunks.{Whole}
-use Rattle.pool_law.specs.Arenas.{Arena, Spotted, front_of, with_subpage, take_run, take_element, take_small, take_class}
-use Rattle.arena_laws.specs.Orderly.{IsOrderly, has_spot}
+use Rattle.pool_law.specs.Arenas.{Arena, Yielded, front_of, with_subpage, take_run, take_element, take_small, take_class}
+use Rattle.arena_laws.specs.Orderly.{IsOrderly, has_subpage}
 use Rattle.arena_laws.proofs.FrontSteps.{spot-first, front-same}
 use Rattle.arena_laws.proofs.OrderlyTakes.{take_subpage-orderly, take_run-fronts}
 use Rattle.pool_arena.specs.declared.place.Wanted.{Wanted}
@@ -18,21 +18,21 @@ use Rattle.pool_arena.specs.Places.{use_wanted}
 use Rattle.pool_arena.specs.Stocks.{StockState, arena_with, arena_in, YieldsNone, run_wanted, NewFront, IsOpen, GivesPlace}
 
 -- a front subpage is before others
-pub first-is : (spots : List (ℕ × ℕ)) (s : SubpageAt) → IsFirst spots (Some s)
-    → (rest : List (ℕ × ℕ)) × (spots ≡ pair_of s ∷ rest)
+pub first-is : (subpages : List (ℕ × ℕ)) (s : SubpageAt) → IsFirst subpages (Some s)
+    → (rest : List (ℕ × ℕ)) × (subpages ≡ pair_of s ∷ rest)
 first-is [] s e = absurd (cc e)
-first-is (t ∷ spots) s e = let same : t ≡ pair_of s = cc e in (spots, ap (λ (x : ℕ × ℕ). x ∷ spots) same)
+first-is (t ∷ subpages) s e = let same : t ≡ pair_of s = cc e in (subpages, ap (λ (x : ℕ × ℕ). x ∷ subpages) same)
 
 -- it has a free element
 pub open-first : (v : StockState) (g : Geometry) → IsOrderly g (arena_in v) → (class c page : ℕ) (rest : List (ℕ × ℕ))
     → is_small g class ≡ true
     → front_of (arena_in v) class ≡ (c, page) ∷ rest → IsOpen v class c page
 open-first v g o class c page rest small front =
-    let room = (o.spotted class c page small).0 (ap (has_spot c page) front ∙ spot-first c page rest) in
+    let room = (o.in_list class c page small).0 (ap (has_subpage c page) front ∙ spot-first c page rest) in
     record { elements = room.elements; here = room.here; room = room.room }
 
 -- a place is given by every step that leads where one does
-gives-as : (old mid new : StockState) (step other : Arena → Option Spotted) (class chunk : ℕ) (piece : Segment)
+gives-as : (old mid new : StockState) (step other : Arena → Option Yielded) (class chunk : ℕ) (piece : Segment)
     → ((takings : ℕ) (out : List RegionId) → other (arena_with old takings out) ≡ step (arena_with mid takings out))
     → mid.geometry ≡ old.geometry → mid.grounds ≡ old.grounds → GivesPlace mid step class new chunk piece
     → GivesPlace old other class new chunk piece
@@ -53,10 +53,10 @@ gives-as old mid new step other class chunk piece same geometry grounds gives =
     }
 
 -- what a small class takes
-by-small : (g : Geometry) (a : Arena) (class : ℕ) (spots : List (ℕ × ℕ)) → is_small g class ≡ true
-    → front_of a class ≡ spots
-    → take_class g a class ≡ take_small g a class spots
-by-small g a class spots small front =
+by-small : (g : Geometry) (a : Arena) (class : ℕ) (subpages : List (ℕ × ℕ)) → is_small g class ≡ true
+    → front_of a class ≡ subpages
+    → take_class g a class ≡ take_small g a class subpages
+by-small g a class subpages small front =
     ap (λ (b : Bool). if b then take_small g a class (front_of a class) else option_map
     (λ t. (t.0, page_of g * t.1, t.2)) (take_run g a (pages_of g class) Whole)) small
     ∙ ap (take_small g a class) front

@@ -8,7 +8,7 @@ use Rattle.pool_law.specs.declared.id.RegionId.{RegionId}
 use Rattle.pool_law.specs.declared.note.Did.{Did}
 use Rattle.pool_law.specs.declared.note.Did.TheVariants.{Take, Full, Give}
 use Rattle.pool_law.specs.declared.note.Noted.{Noted}
-use Rattle.pool_law.specs.Arenas.{Arena, Spotted, new_arena, noted_taking, take_class, take, give, arena_step, as_noted, if_none}
+use Rattle.pool_law.specs.Arenas.{Arena, Yielded, new_arena, noted_taking, take_class, take, give, arena_step, as_noted, if_none}
 use Rattle.pool_law.proofs.HistoryLemmas.{after-noted}
 use Rattle.pool_law.proofs.PatternLemmas.{same_region-refl}
 use Rattle.pool_arena.specs.ArenaStates.{ArenaState, law_of, IsSameArena, Takes, IsFullFor, Gives, without_taking}
@@ -26,7 +26,7 @@ pub take-is : (g : Geometry) (number : ℕ) (a : Arena) (class owner : ℕ) (t :
     → take g number a class owner ≡ Some t → IsTakenFrom number class owner t.0
 take-is g number a class owner t e = by (take_class g a class) e
   where
-    by : (o : Option Spotted) → option_map (noted_taking number class owner) o ≡ Some t
+    by : (o : Option Yielded) → option_map (noted_taking number class owner) o ≡ Some t
         → IsTakenFrom number class owner t.0
     by None is = absurd (cc is)
     by (Some u) is =
@@ -38,7 +38,7 @@ take-is g number a class owner t e = by (take_class g a class) e
 pub full-any : (a : ArenaState) (class owner other : ℕ) → IsFullFor a class owner → IsFullFor a class other
 full-any a class owner other full out = none (take_class a.geometry (law_of a out) class) (full out)
   where
-    none : (o : Option Spotted) → option_map (noted_taking a.number class owner) o ≡ None
+    none : (o : Option Yielded) → option_map (noted_taking a.number class owner) o ≡ None
         → option_map (noted_taking a.number class other) o ≡ None
     none None e = refl
     none (Some t) e = absurd (cc e)

@@ -68,7 +68,7 @@ module _ (s t : Inside) (c : ℕ) (x q : PlaceState) (w : Written s t c x q) (is
         law = λ takings out i. record {
           chunks = (ap (slice_set (stock_in s).chunks c) (sym chunk-new) ∙ sym (written-chunks s t c x q w)) i;
           lists = sym lists-entered i;
-          fronts = ap (map (λ (f : SubpagesState). f.spots)) (sym fronts) i;
+          fronts = ap (map (λ (f : SubpagesState). f.subpages)) (sym fronts) i;
           takings = takings;
           out = out;
         };

@@ -142,7 +142,7 @@ module _ (s t : Inside) (c : ℕ) (x q : PlaceState) (w : Written s t c x q) (sa
         ∙ map-set_same (λ (p : PlaceState). p.chunk) s.places.items c q x
         (ap (λ (p : PlaceState). p.chunk) (same ∙ sym (read-is s.places.items c x x w.found)))) i;
     lists = ap (λ (l : Listing). l.lists) lists i;
-    fronts = ap (map (λ (f : SubpagesState). f.spots)) fronts i;
+    fronts = ap (map (λ (f : SubpagesState). f.subpages)) fronts i;
   }
 
   pub unwritten-held : IsStock s → IsStock t

@@ -21,7 +21,7 @@ stock_in s =
       grounds = map (λ (p : PlaceState). p.origin) s.places.items;
       chunks = map (λ (p : PlaceState). p.chunk) s.places.items;
       lists = s.lists.lists;
-      fronts = map (λ (f : SubpagesState). f.spots) s.fronts.items;
+      fronts = map (λ (f : SubpagesState). f.subpages) s.fronts.items;
     }
 
 -- a front of a small class has room for every page of every chunk

@@ -8,7 +8,7 @@ use Rattle.pool_law.specs.declared.id.RegionId.{RegionId}
 use Rattle.pool_law.specs.declared.report.ListName.{ListName}
 use Rattle.pool_law.specs.Chunks.{Chunk, Sub}
 use Rattle.pool_law.specs.ChunkLists.{Lists, list_of, walk}
-use Rattle.pool_law.specs.Arenas.{Arena, Spotted, chunk_at, elements_at, front_of, with_front, without_spot, with_elements, run_given, with_run, first_holding, take_run, with_subpage}
+use Rattle.pool_law.specs.Arenas.{Arena, Yielded, chunk_at, elements_at, front_of, with_front, without_subpage, with_elements, run_given, with_run, first_holding, take_run, with_subpage}
 use Rattle.arena_laws.specs.Orderly.{chunk_of}
 use Rattle.arena_laws.specs.Slots.{IsSlot}
 use Rattle.pool_arena.specs.declared.place.Wanted.{Wanted}
@@ -46,7 +46,7 @@ pub record Becomes (old : StockState) (step : Arena → Arena) (new : StockState
   pub grounds : new.grounds ≡ old.grounds
 
 -- and to this chunk, and page or offset
-pub record Yields (old : StockState) (step : Arena → Option Spotted) (chunk at : ℕ)
+pub record Yields (old : StockState) (step : Arena → Option Yielded) (chunk at : ℕ)
     (new : StockState) : Type 0 where
   pub law : (takings : ℕ) (out : List RegionId) →
       step (arena_with old takings out) ≡ Some (chunk, at, arena_with new takings out)
@@ -54,7 +54,7 @@ pub record Yields (old : StockState) (step : Arena → Option Spotted) (chunk at
   pub grounds : new.grounds ≡ old.grounds
 
 -- or to nothing
-abbrev pub YieldsNone : StockState → (Arena → Option Spotted) → Type 0
+abbrev pub YieldsNone : StockState → (Arena → Option Yielded) → Type 0
 YieldsNone old step =
     (takings : ℕ) (out : List RegionId) → step (arena_with old takings out) ≡ None
 
@@ -121,7 +121,7 @@ pub record FindsIn (old : StockState) (wanted : Wanted) (new : StockState) (chun
       (walk old.lists) ≡ Some (chunk, cuts.page)
 
 -- a run that is wanted, from the first chunk that has it or from a new one
-abbrev pub run_wanted : StockState → Wanted → Arena → Option Spotted
+abbrev pub run_wanted : StockState → Wanted → Arena → Option Yielded
 run_wanted s wanted a =
     take_run s.geometry a (pages_wanted s.geometry wanted) (use_wanted s.geometry wanted)
 
@@ -174,14 +174,14 @@ element_back class chunk page index e a =
 -- the idle subpage leaves its list and gives its run back
 abbrev pub subpage_given : Geometry → ℕ → ℕ → ℕ → Arena → Arena
 subpage_given g class chunk page a =
-    run_given g (with_front a class (without_spot chunk page (front_of a class))) chunk page
+    run_given g (with_front a class (without_subpage chunk page (front_of a class))) chunk page
 
 -- the bytes of a class, from the offset on
 abbrev pub IsPieceOf : StockState → ℕ → ℕ → Segment → Type 0
 IsPieceOf s class chunk piece = IsBytesIn s chunk piece.start (size_at class) piece
 
 -- the arena gives a place of the class
-pub record GivesPlace (old : StockState) (step : Arena → Option Spotted) (class : ℕ)
+pub record GivesPlace (old : StockState) (step : Arena → Option Yielded) (class : ℕ)
     (new : StockState) (chunk : ℕ) (piece : Segment) : Type 0 where
   pub yields : Yields old step chunk piece.start new
   pub piece_is : IsPieceOf old class chunk piece

@@ -11,22 +11,22 @@ pair_of s = (s.chunk, s.page)
 -- the subpages, the front first, and how many there is room for
 pub record SubpagesState : Type 0 where
   pub room : ℕ
-  pub spots : List (ℕ × ℕ)
+  pub subpages : List (ℕ × ℕ)
 
 abbrev pub front_in : Inside → SubpagesState
-front_in f = record { room = deque_capacity f.spots; spots = map pair_of f.spots.items }
+front_in f = record { room = deque_capacity f.subpages; subpages = map pair_of f.subpages.items }
 
 abbrev pub new_front : ℕ → SubpagesState
-new_front room = record { room = room; spots = [] }
+new_front room = record { room = room; subpages = [] }
 
-abbrev pub with_spots : SubpagesState → List (ℕ × ℕ) → SubpagesState
-with_spots f spots = record f { spots = spots }
+abbrev pub with_subpages : SubpagesState → List (ℕ × ℕ) → SubpagesState
+with_subpages f subpages = record f { subpages = subpages }
 
 -- the first of the subpages, if there is one
-abbrev pub first_spot : List (ℕ × ℕ) → Option (ℕ × ℕ)
-first_spot [] = None
-first_spot (s ∷ spots) = Some s
+abbrev pub first_subpage : List (ℕ × ℕ) → Option (ℕ × ℕ)
+first_subpage [] = None
+first_subpage (s ∷ subpages) = Some s
 
 abbrev pub IsFirst : List (ℕ × ℕ) → Option SubpageAt → Type 0
-IsFirst spots None = spots ≡ []
-IsFirst spots (Some s) = first_spot spots ≡ Some (pair_of s)
+IsFirst subpages None = subpages ≡ []
+IsFirst subpages (Some s) = first_subpage subpages ≡ Some (pair_of s)

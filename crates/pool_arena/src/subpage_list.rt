@@ -1,7 +1,7 @@
 //! The subpages of a class that have a free element.
 
 ghost use Rattle.std.specs.Prelude.{◌≡◌, ◌<◌, ◌∷◌, length, IfOk};
-ghost use Rattle.pool_law.specs.Arenas.{without_spot, is_alone};
+ghost use Rattle.pool_law.specs.Arenas.{without_subpage, is_alone};
 
 use std::alloc::{AllocError, Global};
 use std::collections::VecDeque;
@@ -18,7 +18,7 @@ pub(crate) struct SubpageAt {
 /// (Netty: the list of `PoolSubpage`s of a size).
 #[derive(Drop)]
 pub(crate) struct SubpageList {
-    spots: VecDeque<SubpageAt>,
+    subpages: VecDeque<SubpageAt>,
 }
 
 impl Model for SubpageList {
@@ -32,44 +32,44 @@ impl Model for SubpageList {
 }
 
 impl SubpageList {
-    ghost use Rattle.pool_arena.specs.SubpageLists.{new_front, with_spots, IsFirst, pair_of};
+    ghost use Rattle.pool_arena.specs.SubpageLists.{new_front, with_subpages, IsFirst, pair_of};
 
     /// No subpage, and room for so many.
     pub(crate) fn new(alloc: Global, room: usize) -> Result<SubpageList, AllocError>
         ensures { IfOk result (λ front. front ≡ new_front room) }
     {
-        let spots = VecDeque::with_capacity(alloc, room)?;
-        Ok(SubpageList { spots })
+        let subpages = VecDeque::with_capacity(alloc, room)?;
+        Ok(SubpageList { subpages })
     }
 
     /// The subpage that is asked next, if there is one.
     pub(crate) fn first(&self) -> Option<SubpageAt>
-        ensures { IsFirst self.now.spots result }
+        ensures { IsFirst self.now.subpages result }
     {
-        self.spots.front().copied()
+        self.subpages.front().copied()
     }
 
     /// Whether there is no second subpage.
     pub(crate) fn is_alone(&self) -> bool
-        ensures { result ≡ is_alone self.now.spots }
+        ensures { result ≡ is_alone self.now.subpages }
     {
-        self.spots.len() < 2
+        self.subpages.len() < 2
     }
 
     /// A subpage enters before the others.
     pub(crate) fn enter(&mut self, spot: SubpageAt)
-        requires { length self.old.spots < self.old.room }
-        ensures { self.new ≡ with_spots self.old (pair_of spot ∷ self.old.spots) }
+        requires { length self.old.subpages < self.old.room }
+        ensures { self.new ≡ with_subpages self.old (pair_of spot ∷ self.old.subpages) }
     {
-        self.spots.push_front_reserved(spot);
+        self.subpages.push_front_reserved(spot);
     }
 
     /// A subpage leaves.
     pub(crate) fn leave(&mut self, spot: SubpageAt)
         ensures { self.new
-            ≡ with_spots self.old (without_spot spot.chunk spot.page self.old.spots) }
+            ≡ with_subpages self.old (without_subpage spot.chunk spot.page self.old.subpages) }
     {
-        self.spots
+        self.subpages
             .retain(|s| !(s.chunk == spot.chunk && s.page == spot.page));
     }
 }

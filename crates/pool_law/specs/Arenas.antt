@@ -58,11 +58,11 @@ front_of a class = unwrap_or (slice_get a.fronts class) []
 
 -- the subpages of a class that have a free element are these
 abbrev pub with_front : Arena → ℕ → List (ℕ × ℕ) → Arena
-with_front a class spots = record a { fronts = slice_set a.fronts class spots }
+with_front a class subpages = record a { fronts = slice_set a.fronts class subpages }
 
 -- a list of subpages without the one at this chunk and page
-abbrev pub without_spot : ℕ → ℕ → List (ℕ × ℕ) → List (ℕ × ℕ)
-without_spot c page spots = filter (λ s. not ((s.0 == c) && (s.1 == page))) spots
+abbrev pub without_subpage : ℕ → ℕ → List (ℕ × ℕ) → List (ℕ × ℕ)
+without_subpage c page subpages = filter (λ s. not ((s.0 == c) && (s.1 == page))) subpages
 
 -- the elements of a run, where it is a subpage of the class
 abbrev pub elements_in : ℕ → Option (Run Use) → Option Elements
@@ -107,59 +107,59 @@ opened g a c =
     record b { lists = entered a.lists QInit c }
 
 -- a chunk, a page or an offset in it, and the arena then
-abbrev pub Spotted : Type 0
-Spotted = ℕ × ℕ × Arena
+abbrev pub Yielded : Type 0
+Yielded = ℕ × ℕ × Arena
 
 -- a run of the pages at this chunk and page, of this arena
-abbrev pub run_from : Geometry → Arena → ℕ → Use → ℕ × ℕ → Spotted
+abbrev pub run_from : Geometry → Arena → ℕ → Use → ℕ × ℕ → Yielded
 run_from g a pages what spot = (spot.0, spot.1, with_run g a spot.0 spot.1 pages what)
 
 -- a run from a new chunk at the lowest place without one
-abbrev pub run_from_new : Geometry → Arena → ℕ → Use → Option ℕ → Option Spotted
+abbrev pub run_from_new : Geometry → Arena → ℕ → Use → Option ℕ → Option Yielded
 run_from_new g a pages what None = None
 run_from_new g a pages what (Some c) =
     option_map (run_from g (opened g a c) pages what)
     (first_holding g (opened g a c) pages (c ∷ []))
 
 -- the run that is taken: from a chunk that holds it, or else from a new one
-abbrev pub run_taken : Geometry → Arena → ℕ → Use → Option (ℕ × ℕ) → Option Spotted
+abbrev pub run_taken : Geometry → Arena → ℕ → Use → Option (ℕ × ℕ) → Option Yielded
 run_taken g a pages what (Some spot) = Some (run_from g a pages what spot)
 run_taken g a pages what None = run_from_new g a pages what (first_unused a.chunks)
 
 -- a run of the pages: the chunk, its first page, and the arena then; none where the arena is full
-abbrev pub take_run : Geometry → Arena → ℕ → Use → Option Spotted
+abbrev pub take_run : Geometry → Arena → ℕ → Use → Option Yielded
 take_run g a pages what = run_taken g a pages what (first_holding g a pages (walk a.lists))
 
 -- the front subpage gives its next element, and leaves its list if it is then full
-abbrev pub element_taken : Geometry → Arena → ℕ → ℕ × ℕ → Elements → ℕ → Spotted
+abbrev pub element_taken : Geometry → Arena → ℕ → ℕ × ℕ → Elements → ℕ → Yielded
 element_taken g a class spot e k =
     let b = with_elements a spot.0 spot.1 class (with_out e k) in (
       spot.0,
       page_of g * spot.1 + k * size_at class,
       (if is_full (with_out e k)
-          then with_front b class (without_spot spot.0 spot.1 (front_of b class))
+          then with_front b class (without_subpage spot.0 spot.1 (front_of b class))
           else b),
     )
 
 -- the next element of a subpage, where it has one
-abbrev pub take_element : Geometry → Arena → ℕ → ℕ × ℕ → Option Spotted
+abbrev pub take_element : Geometry → Arena → ℕ → ℕ × ℕ → Option Yielded
 take_element g a class spot =
     option_and_then (λ e. option_map (λ k. element_taken g a class spot e k) (next_element e))
     (elements_at a class spot.0 spot.1)
 
 -- a run that is taken for a class becomes its front subpage
-abbrev pub with_subpage : ℕ → Spotted → Arena
+abbrev pub with_subpage : ℕ → Yielded → Arena
 with_subpage class t = with_front t.2 class ((t.0, t.1) ∷ front_of t.2 class)
 
 -- a small class takes from its front subpage, and from a new one where there is none
-abbrev pub take_small : Geometry → Arena → ℕ → List (ℕ × ℕ) → Option Spotted
-take_small g a class (spot ∷ spots) = take_element g a class spot
+abbrev pub take_small : Geometry → Arena → ℕ → List (ℕ × ℕ) → Option Yielded
+take_small g a class (spot ∷ subpages) = take_element g a class spot
 take_small g a class [] =
     option_and_then (λ t. take_element g (with_subpage class t) class (t.0, t.1))
     (take_run g a (subpage_pages g class) (Sub class (new_elements (element_count g class))))
 
 -- the chunk and the offset that a class is given, and the arena then
-abbrev pub take_class : Geometry → Arena → ℕ → Option Spotted
+abbrev pub take_class : Geometry → Arena → ℕ → Option Yielded
 take_class g a class =
     if is_small g class
     then take_small g a class (front_of a class)
@@ -177,7 +177,7 @@ region_of number class owner taking chunk offset =
     }
 
 -- the taking is numbered, and is out
-abbrev pub noted_taking : ℕ → ℕ → ℕ → Spotted → RegionId × Arena
+abbrev pub noted_taking : ℕ → ℕ → ℕ → Yielded → RegionId × Arena
 noted_taking number class owner t =
     let b = t.2 in
     let region = region_of number class owner (b.takings + 1) t.0 t.1 in
@@ -214,7 +214,7 @@ abbrev pub idle_given : Geometry → Arena → ℕ → ℕ → ℕ → Arena
 idle_given g a class c page =
     if is_alone (front_of a class)
     then a
-    else run_given g (with_front a class (without_spot c page (front_of a class))) c page
+    else run_given g (with_front a class (without_subpage c page (front_of a class))) c page
 
 -- an element is given back, and its subpage enters its list if it was full
 abbrev pub element_given : Geometry → Arena → ℕ → ℕ → ℕ → ℕ → Elements → Arena

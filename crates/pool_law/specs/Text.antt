@@ -128,8 +128,8 @@ object_words (Object.Mail from to) = codes "mail" ∷ decimal from ∷ decimal t
 object_words (Object.Root place) = codes "root" ∷ decimal place ∷ []
 
 -- chunk and offset, and the taking's number
-abbrev pub spot_words : RegionId → List Text
-spot_words r = plus r.place.chunk r.place.offset ∷ decimal r.taking ∷ []
+abbrev pub region_words : RegionId → List Text
+region_words r = plus r.place.chunk r.place.offset ∷ decimal r.taking ∷ []
 
 -- the words of a parcel
 abbrev pub parcel_words : Option ViewData → List Text
@@ -148,9 +148,9 @@ why_word CacheNo.Closed = codes "closed"
 
 -- the words of what was done to an object
 abbrev pub did_words : Did → List Text
-did_words (Did.Take class region) = codes "take" ∷ decimal class ∷ spot_words region
+did_words (Did.Take class region) = codes "take" ∷ decimal class ∷ region_words region
 did_words (Did.Full class) = codes "full" ∷ decimal class ∷ []
-did_words (Did.Give region) = codes "give" ∷ spot_words region
+did_words (Did.Give region) = codes "give" ∷ region_words region
 did_words (Did.Hit region) = codes "hit" ∷ decimal region.taking ∷ []
 did_words Did.Miss = codes "miss" ∷ []
 did_words (Did.Kept region) = codes "kept" ∷ decimal region.taking ∷ []

@@ -1,7 +1,7 @@
 //! The lines of notes.
 
 ghost use Rattle.std.specs.Prelude.{◌≡◌, ◌++◌, ◌∷◌, OnOk, codes, decimal};
-ghost use Rattle.pool_law.specs.Text.{all_notes, did_words, line, note_lines, note_words, object_words, parcel_words, ref_words, spot_words};
+ghost use Rattle.pool_law.specs.Text.{all_notes, did_words, line, note_lines, note_words, object_words, parcel_words, ref_words, region_words};
 ghost use Rattle.pool_law.specs.declared.note.Did.{Did};
 ghost use Rattle.run_report.specs.Words.{after_spaces};
 
@@ -32,7 +32,7 @@ impl Writer {
 
     // Chunk and offset of a region, and its taking's number.
     fn spot(&mut self, region: &RegionId) -> Result<(), AllocError>
-        ensures { OnOk result (self.new ≡ self.old ++ after_spaces (spot_words region.now)) }
+        ensures { OnOk result (self.new ≡ self.old ++ after_spaces (region_words region.now)) }
     {
         self.plus(region.place.chunk, region.place.offset)?;
         self.number(region.taking)

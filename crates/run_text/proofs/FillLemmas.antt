@@ -6,12 +6,12 @@ use Rattle.pool_law.specs.declared.id.RegionId.{RegionId}
 use Rattle.pool_law.specs.declared.note.Did.{Did}
 use Rattle.pool_law.specs.declared.note.Note.{Note}
 use Rattle.run_text.specs.Lines.{Begun, Line, begun, brought, in_hand, keyed, last, last_use, same_key, taking_key}
-use Rattle.run_text.specs.Told.{did_told, spot_told}
+use Rattle.run_text.specs.Told.{did_told, shown_region}
 use Rattle.run_text.proofs.KnownLemmas.{last-push}
 
 -- a line that tells a taking tells it of this
 pub told_take : (did : Did) (class : ℕ) (region : RegionId) → Did.Take class region ≡ did_told did
-    → (r : RegionId) × (did ≡ Did.Take class r) × (region ≡ spot_told r)
+    → (r : RegionId) × (did ≡ Did.Take class r) × (region ≡ shown_region r)
 told_take (Did.Take class' r) class region is = (r, cc, cc)
 told_take did class region is = absurd (cc)
 

@@ -13,8 +13,8 @@ use Rattle.pool_law.specs.declared.note.Note.{Note}
 use Rattle.pool_law.specs.declared.note.Object.{Object}
 use Rattle.pool_law.specs.declared.note.RefDid.{RefDid}
 use Rattle.pool_law.specs.declared.run.LaneLog.{LaneLog}
-use Rattle.pool_law.specs.Text.{Text, all_notes, did_words, note_lines, note_words, object_words, parcel_words, ref_words, shown_place, spot_words, why_word}
-use Rattle.run_text.specs.Told.{FitsDid, FitsNote, FitsObject, FitsParcel, FitsPlace, FitsRef, FitsSpot}
+use Rattle.pool_law.specs.Text.{Text, all_notes, did_words, note_lines, note_words, object_words, parcel_words, ref_words, shown_place, region_words, why_word}
+use Rattle.run_text.specs.Told.{FitsDid, FitsNote, FitsObject, FitsParcel, FitsPlace, FitsRef, FitsRegion}
 use Rattle.run_text.specs.Lines.{Line, of_lane, told_from}
 use Rattle.run_text.specs.Knowing.{FitsLine, line_text}
 use Rattle.run_text.specs.Starting.{AreShown, is_shown, unlines, Begins}
@@ -40,8 +40,8 @@ shown-object (Object.Bin lane) fits = (refl, (small lane fits, tt))
 shown-object (Object.Mail from to) fits = (refl, (small from fits.0, (small to fits.1, tt)))
 shown-object (Object.Root number) fits = (refl, (small number fits, tt))
 
-shown-spot : (r : RegionId) → FitsSpot r → AreShown (spot_words r)
-shown-spot r fits =
+shown-region : (r : RegionId) → FitsRegion r → AreShown (region_words r)
+shown-region r fits =
     (pair 43 r.place.chunk r.place.offset (omega arith) fits.0 fits.1, (shown-decimal r.taking fits.2, tt))
 
 shown-parcel : (view : Option ViewData) → FitsParcel view → AreShown (parcel_words view)
@@ -56,9 +56,9 @@ shown-why CacheNo.Full = refl
 shown-why CacheNo.Closed = refl
 
 shown-did : (did : Did) → FitsDid did → AreShown (did_words did)
-shown-did (Did.Take class region) fits = (refl, (small class fits.0, shown-spot region fits.1))
+shown-did (Did.Take class region) fits = (refl, (small class fits.0, shown-region region fits.1))
 shown-did (Did.Full class) fits = (refl, (small class fits, tt))
-shown-did (Did.Give region) fits = (refl, shown-spot region fits)
+shown-did (Did.Give region) fits = (refl, shown-region region fits)
 shown-did (Did.Hit region) fits = (refl, (shown-decimal region.taking fits, tt))
 shown-did Did.Miss fits = (refl, tt)
 shown-did (Did.Kept region) fits = (refl, (shown-decimal region.taking fits, tt))

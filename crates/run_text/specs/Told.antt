@@ -76,8 +76,8 @@ abbrev pub FitsPlace : Place → Type 0
 FitsPlace p = (p.arena < 2 ^ 32) × (p.chunk < 2 ^ 32) × (p.offset < 2 ^ 32)
 
 -- those that are told of a region's spot
-abbrev pub FitsSpot : RegionId → Type 0
-FitsSpot r = (r.place.chunk < 2 ^ 32) × (r.place.offset < 2 ^ 32) × (r.taking < 2 ^ 64)
+abbrev pub FitsRegion : RegionId → Type 0
+FitsRegion r = (r.place.chunk < 2 ^ 32) × (r.place.offset < 2 ^ 32) × (r.taking < 2 ^ 64)
 
 -- those that are told of a use that begins
 abbrev pub FitsUse : RegionId → ℕ → Type 0
@@ -100,9 +100,9 @@ FitsParcel (Some v) = FitsView v
 
 -- those that are told of what was done, and its bytes, are of their types
 abbrev pub FitsDid : Did → Type 0
-FitsDid (Did.Take class region) = (class < 2 ^ 32) × FitsSpot region
+FitsDid (Did.Take class region) = (class < 2 ^ 32) × FitsRegion region
 FitsDid (Did.Full class) = class < 2 ^ 32
-FitsDid (Did.Give region) = FitsSpot region
+FitsDid (Did.Give region) = FitsRegion region
 FitsDid (Did.Hit region) = region.taking < 2 ^ 64
 FitsDid Did.Miss = Unit {0}
 FitsDid (Did.Kept region) = region.taking < 2 ^ 64
@@ -140,8 +140,8 @@ region_told place taking uses =
     record { place = place; class = 0; owner = 0; taking = taking; uses = uses }
 
 -- of a region its chunk, its offset and its taking are told
-abbrev pub spot_told : RegionId → RegionId
-spot_told r =
+abbrev pub shown_region : RegionId → RegionId
+shown_region r =
     region_told (record { arena = 0; chunk = r.place.chunk; offset = r.place.offset; len = 0 }) r.taking 0
 
 -- its taking alone
@@ -169,9 +169,9 @@ view_told (Some v) = Some (seen_of v)
 
 -- what a line tells of what was done
 abbrev pub did_told : Did → Did
-did_told (Did.Take class region) = Did.Take class (spot_told region)
+did_told (Did.Take class region) = Did.Take class (shown_region region)
 did_told (Did.Full class) = Did.Full class
-did_told (Did.Give region) = Did.Give (spot_told region)
+did_told (Did.Give region) = Did.Give (shown_region region)
 did_told (Did.Hit region) = Did.Hit (taking_told region)
 did_told Did.Miss = Did.Miss
 did_told (Did.Kept region) = Did.Kept (taking_told region)

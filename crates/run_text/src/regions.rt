@@ -1,13 +1,13 @@
 //! What lines tell of regions, roots and parcels: 0 stands for a number that a line leaves out.
 
 ghost use Rattle.std.specs.Prelude.{◌≡◌, ◌++◌, ◌∷◌, ◌<◌, ◌^◌, ℕ, List, Option, Some, decimal};
-ghost use Rattle.pool_law.specs.Text.{Text, dotted, parcel_words, shown_place, spaced, spot_words, why_word};
+ghost use Rattle.pool_law.specs.Text.{Text, dotted, parcel_words, shown_place, spaced, region_words, why_word};
 ghost use Rattle.pool_law.specs.declared.id.RegionId.{RegionId};
 ghost use Rattle.pool_law.specs.declared.id.RootId.{RootId};
 ghost use Rattle.pool_law.specs.declared.id.ViewData.{ViewData};
 ghost use Rattle.pool_law.specs.declared.note.CacheNo.{CacheNo};
 ghost use Rattle.run_text.specs.Reading.{Gives};
-ghost use Rattle.run_text.specs.Told.{FitsParcel, FitsSpot, FitsUse, FitsView, region_told, root_told, seen_of, spot_told, taking_told, use_told, view_told};
+ghost use Rattle.run_text.specs.Told.{FitsParcel, FitsRegion, FitsUse, FitsView, region_told, root_told, seen_of, shown_region, taking_told, use_told, view_told};
 
 use crate::words::Words;
 use crate::{LineNo, TextNo};
@@ -28,9 +28,9 @@ fn region_of(place: Place, taking: u64, uses: u64) -> RegionId
 
 /// Chunk and offset of a region, and the number of its taking.
 pub fn spot(words: &mut Words) -> Result<RegionId, TextNo>
-    ensures { (region : RegionId) (more : List Text) → FitsSpot region
-        → words.old.rest.now ≡ spaced (spot_words region ++ more)
-        → Gives result words.new.rest.now (spot_told region) more }
+    ensures { (region : RegionId) (more : List Text) → FitsRegion region
+        → words.old.rest.now ≡ spaced (region_words region ++ more)
+        → Gives result words.new.rest.now (shown_region region) more }
 {
     let (chunk, offset) = words.pair('+')?;
     let taking = words.number()?;

@@ -8,7 +8,7 @@ ghost use Rattle.pool_law.specs.ChunkLists.{walk};
 ghost use Rattle.pool_law.specs.Arenas.{chunk_at, first_holding, first_unused, opened, with_run};
 ghost use Rattle.pool_law.specs.Arenas.{take_run};
 ghost use Rattle.object_steps.specs.Runs.{IsCapped, use_of};
-ghost use Rattle.object_steps.specs.Moves.{HasRoomAt, GivesSpot, with_run_at};
+ghost use Rattle.object_steps.specs.Moves.{HasRoomAt, GivesYielded, with_run_at};
 
 use crate::arena::Arena;
 use crate::chunk::Chunk;
@@ -27,7 +27,7 @@ impl Arena {
         what: Purpose,
     ) -> Result<Option<(u32, u32)>, AllocError>
         requires { 0 < pages }
-        ensures spot { (wanted : ℕ) → IsCapped wanted pages → IfOk result (λ spot. GivesSpot
+        ensures spot { (wanted : ℕ) → IsCapped wanted pages → IfOk result (λ spot. GivesYielded
             (take_run sizes.now self.old wanted (use_of what)) self.old self.new spot) }
         ensures begins { IfOk result (λ spot. IfSome spot (λ s.
             run_at s.1 (chunk_at self.new s.0) ≡ Some (Used pages (use_of what)))) }
@@ -49,7 +49,7 @@ impl Arena {
     ) -> Result<Option<(u32, u32)>, AllocError>
         requires { 0 < pages }
         ensures spot { (wanted : ℕ) → IsCapped wanted pages → (what : Use) → IfOk result (λ spot.
-            GivesSpot (take_run sizes.now self.old wanted what) self.old
+            GivesYielded (take_run sizes.now self.old wanted what) self.old
             (with_run_at sizes.now self.new pages what spot) spot) }
         ensures room { IfOk result (λ spot. IfSome spot
             (λ s. HasRoomAt self.new s.0 s.1 pages)) }

@@ -10,7 +10,7 @@ ghost use Rattle.pool_law.specs.Caches.{if_so};
 ghost use Rattle.pool_law.specs.Same.{same_region};
 ghost use Rattle.pool_law.specs.Arenas.{take_element, take_small, take_class, front_of};
 ghost use Rattle.pool_law.specs.Arenas.{elements_at, elements_in, with_elements, region_of, arena_step};
-ghost use Rattle.object_steps.specs.Moves.{GivesSpot};
+ghost use Rattle.object_steps.specs.Moves.{GivesYielded};
 
 use crate::arena::Arena;
 use crate::chunk::Chunk;
@@ -67,7 +67,8 @@ impl Arena {
         sizes: &Sizes,
         class: u32,
     ) -> Result<Option<(u32, u64)>, AllocError>
-        ensures { IfOk result (GivesSpot (take_class sizes.now self.old class) self.old self.new) }
+        ensures { IfOk result
+            (GivesYielded (take_class sizes.now self.old class) self.old self.new) }
     {
         if sizes.is_small(class) {
             return self.take_small(alloc, sizes, class);
@@ -88,7 +89,7 @@ impl Arena {
     ) -> Result<Option<(u32, u64)>, AllocError>
         requires small { is_small sizes.now class ≡ true }
         requires few { class < 47 }
-        ensures { IfOk result (GivesSpot
+        ensures { IfOk result (GivesYielded
             (take_small sizes.now self.old class (front_of self.old class)) self.old self.new) }
     {
         if let Some((place, page)) = self.first_subpage(class) {
@@ -114,7 +115,7 @@ impl Arena {
         page: u32,
     ) -> Result<Option<(u32, u64)>, AllocError>
         requires { class < 47 }
-        ensures { IfOk result (GivesSpot
+        ensures { IfOk result (GivesYielded
             (take_element sizes.now self.old class (place, page)) self.old self.new) }
     {
         let Some(element) = self.next_element(class, place, page) else {

@@ -3,7 +3,7 @@
 ghost use Rattle.std.specs.Prelude.{◌≡◌, ◌<◌, ℕ, List, Ok, Some};
 ghost use Rattle.pool_law.specs.declared.id.RegionId.{RegionId};
 ghost use Rattle.pool_law.specs.declared.note.Did.TheVariants.{Take};
-ghost use Rattle.run_text.specs.Told.{spot_told, use_told};
+ghost use Rattle.run_text.specs.Told.{shown_region, use_told};
 ghost use Rattle.run_text.specs.Lines.{IsDidTold, Line, in_hand, key_at, region_with, taking_key, uses_after};
 ghost use Rattle.run_text.specs.Knowing.{IsAt};
 
@@ -22,7 +22,7 @@ impl Filler {
         told: &RegionId,
     ) -> Result<RegionId, LineNo>
         ensures { (arenas : ℕ) (all before : List Line) (region : RegionId)
-            → IsAt arenas all before self.now → told.now ≡ spot_told region
+            → IsAt arenas all before self.now → told.now ≡ shown_region region
             → IsDidTold arenas all before lane object.now (Take class region)
             → result ≡ Ok region }
     {

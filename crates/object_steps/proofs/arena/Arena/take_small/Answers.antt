@@ -4,8 +4,8 @@ use Rattle.size_classes.specs.Sizes.{subpage_pages, element_count}
 use Rattle.size_classes.specs.Elements.{new_elements}
 use Rattle.size_classes.specs.Pages.{Used, run_at}
 use Rattle.pool_law.specs.Chunks.{Use, Sub}
-use Rattle.pool_law.specs.Arenas.{Arena, Spotted, front_of, take_run, chunk_at}
-use Rattle.object_steps.specs.Moves.{GivesSpot}
+use Rattle.pool_law.specs.Arenas.{Arena, Yielded, front_of, take_run, chunk_at}
+use Rattle.object_steps.specs.Moves.{GivesYielded}
 use Rattle.object_steps.proofs.ElementLemmas.{gives-new, front-empty}
 use Rattle.object_steps.proofs.arena.Arena.take_small.Goals as goal
 
@@ -29,13 +29,14 @@ returns c =
     c.in_ok-elements.ensures ∙ ap new_elements c.element_count.ensures.count in
     let what : Use = Sub class c.in_ok-elements.elements in
     let what_is : what ≡ Sub class (new_elements (element_count g class)) = ap (Sub class) elements_are in
-    let run : GivesSpot (take_run g old pages what) old c.take_run.new.self (Some (place, page)) =
-    subst (GivesSpot (take_run g old pages what) old c.take_run.new.self) c.in-Some-2.is
+    let run : GivesYielded (take_run g old pages what) old c.take_run.new.self (Some (place, page)) =
+    subst (GivesYielded (take_run g old pages what) old c.take_run.new.self) c.in-Some-2.is
     (c.in_ok-place.ensures.spot pages (inl refl)) in
-    let same_run : GivesSpot (take_run g old (subpage_pages g class) (Sub class (new_elements (element_count g class))))
+    let same_run : GivesYielded (take_run g old (subpage_pages g class) (Sub class (new_elements
+    (element_count g class))))
     old
     c.take_run.new.self (Some (place, page)) =
-    subst (λ (o : Option Spotted). GivesSpot o old c.take_run.new.self (Some (place, page)))
+    subst (λ (o : Option Yielded). GivesYielded o old c.take_run.new.self (Some (place, page)))
     (λ i. take_run g old (pages_is i) (what_is i)) run in
     let begins : run_at page (chunk_at c.take_run.new.self place)
     ≡ Some (Used pages what) = rw c.in-Some-2.is at c.in_ok-place.ensures.begins in

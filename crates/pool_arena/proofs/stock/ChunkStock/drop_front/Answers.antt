@@ -37,7 +37,7 @@ drop_subpage-requires-clause-idle c =
     let small = small-at v c.args.self.now.geometry c.args.class c.loop-spot.invariant.geometry c.requires.small in
     let less = less-at v c.args.self.now.geometry c.args.class c.loop-spot.invariant.rests
     c.loop-spot.invariant.geometry c.requires.small in
-    let first = first-is c.index.result.now.spots c.in-Some.spot (c.in-Some.ensures {u = tt}) in
+    let first = first-is c.index.result.now.subpages c.in-Some.spot (c.in-Some.ensures {u = tt}) in
     first-idle v c.loop-spot.invariant.rests c.args.class c.in-Some.spot.chunk c.in-Some.spot.page first.0 small
     (front-seen c.self.inside v c.args.class c.index.result.now c.self.invariant c.self.view_is less c.index.ensures
     ∙ first.1)
@@ -48,7 +48,7 @@ drop_subpage-requires-clause-there c =
     let small = small-at v c.args.self.now.geometry c.args.class c.loop-spot.invariant.geometry c.requires.small in
     let less = less-at v c.args.self.now.geometry c.args.class c.loop-spot.invariant.rests
     c.loop-spot.invariant.geometry c.requires.small in
-    let first = first-is c.index.result.now.spots c.in-Some.spot (c.in-Some.ensures {u = tt}) in
+    let first = first-is c.index.result.now.subpages c.in-Some.spot (c.in-Some.ensures {u = tt}) in
     first-there v c.loop-spot.invariant.rests c.args.class c.in-Some.spot.chunk c.in-Some.spot.page first.0 small
     (front-seen c.self.inside v c.args.class c.index.result.now c.self.invariant c.self.view_is less c.index.ensures
     ∙ first.1)
@@ -59,7 +59,7 @@ loop-spot-smaller c =
     let small = small-at v c.args.self.now.geometry c.args.class c.loop-spot.invariant.geometry c.requires.small in
     let less = less-at v c.args.self.now.geometry c.args.class c.loop-spot.invariant.rests
     c.loop-spot.invariant.geometry c.requires.small in
-    let first = first-is c.index.result.now.spots c.in-Some.spot (c.in-Some.ensures {u = tt}) in
+    let first = first-is c.index.result.now.subpages c.in-Some.spot (c.in-Some.ensures {u = tt}) in
     dropped-shorter v c.loop-spot.invariant.rests c.args.class c.in-Some.spot.chunk c.in-Some.spot.page first.0 small
     (front-seen c.self.inside v c.args.class c.index.result.now c.self.invariant c.self.view_is less c.index.ensures
     ∙ first.1)
@@ -71,7 +71,7 @@ loop-spot-preserved c =
     let small = small-at v c.args.self.now.geometry c.args.class c.loop-spot.invariant.geometry c.requires.small in
     let less = less-at v c.args.self.now.geometry c.args.class c.loop-spot.invariant.rests
     c.loop-spot.invariant.geometry c.requires.small in
-    let first = first-is c.index.result.now.spots c.in-Some.spot (c.in-Some.ensures {u = tt}) in
+    let first = first-is c.index.result.now.subpages c.in-Some.spot (c.in-Some.ensures {u = tt}) in
     let front = front-seen c.self.inside v c.args.class c.index.result.now c.self.invariant c.self.view_is less
     c.index.ensures ∙ first.1 in
     record {

@@ -5,7 +5,7 @@ use Rattle.size_classes.specs.Sizes.{Geometry, chunk_bytes, chunk_pages}
 use Rattle.size_classes.specs.Pages.{Used, NoneEmpty, run_at}
 use Rattle.size_classes.proofs.Runs.{Begins-run_at}
 use Rattle.pool_law.specs.Chunks.{Chunk, Sub}
-use Rattle.pool_law.specs.Arenas.{chunk_at, front_of, without_spot}
+use Rattle.pool_law.specs.Arenas.{chunk_at, front_of, without_subpage}
 use Rattle.pool_chunk.specs.ChunkStates.{HasSubpage}
 use Rattle.pool_arena.specs.Places.{PlaceState, state_of, runs_of}
 use Rattle.pool_arena.specs.SubpageLists.{SubpagesState}
@@ -15,7 +15,7 @@ use Rattle.pool_arena.specs.declared.stock.ChunkStock.TheInside.{Inside}
 use Rattle.pool_arena.proofs.ListLaws.{found-is}
 use Rattle.pool_arena.proofs.StockLaws.{place-of, place-chunk_at, place-geometry}
 use Rattle.pool_arena.proofs.SettleLaws.{Settles, settles-of, settle-held}
-use Rattle.pool_arena.proofs.FrontsLaws.{front-found, front_of-is, rooms-set, spots-set}
+use Rattle.pool_arena.proofs.FrontsLaws.{front-found, front_of-is, rooms-set, subpages-set}
 use Rattle.pool_arena.proofs.ElementLaws.{elements-run}
 use Rattle.pool_arena.proofs.GiveLaws.{given-law}
 use Rattle.pool_arena.proofs.stock.ChunkStock.drop_subpage.Goals as goal
@@ -114,18 +114,19 @@ returns c =
     let some = subst (λ (rs : Chunk). NoneEmpty rs)
     (ap (λ (w : StockState). chunk_at (arena_in w) chunk) (sym c.self.view_is) ∙ place-chunk_at s chunk x found)
     c.requires.some in
-    let fronts : map (λ (f : SubpagesState). f.spots) (slice_set s.fronts.items class c.leave.new.self)
-    ≡ slice_set (stock_in s).fronts class (without_spot chunk page (front_of (arena_in (stock_in s)) class)) =
-    spots-set s.fronts.items class c.leave.new.self
+    let fronts : map (λ (f : SubpagesState). f.subpages) (slice_set s.fronts.items class c.leave.new.self)
+    ≡ slice_set (stock_in s).fronts class (without_subpage chunk page (front_of (arena_in (stock_in s)) class)) =
+    subpages-set s.fronts.items class c.leave.new.self
     ∙ ap (slice_set (stock_in s).fronts class)
-    (ap (λ (f : SubpagesState). f.spots) c.leave.ensures
-    ∙ ap (without_spot chunk page) (sym (front_of-is s class c.index_mut.result.now (front_at c)))) in
+    (ap (λ (f : SubpagesState). f.subpages) c.leave.ensures
+    ∙ ap (without_subpage chunk page) (sym (front_of-is s class c.index_mut.result.now (front_at c)))) in
     let becomes =
     given-law s (after c) c.self.invariant chunk page sub.pages (Sub class sub.elements) x c.drop_subpage.new.self
     c.settle.new.place
     (Begins-run_at (runs_of x) page (Used sub.pages (Sub class sub.elements)) sub.run) some c.drop_subpage.ensures
     (settles c)
-    (slice_set (stock_in s).fronts class (without_spot chunk page (front_of (arena_in (stock_in s)) class))) fronts in
+    (slice_set (stock_in s).fronts class (without_subpage chunk page (front_of (arena_in
+    (stock_in s)) class))) fronts in
     subst (λ (w : StockState). Becomes w (subpage_given w.geometry class chunk page) (stock_in (after c)))
     c.self.view_is
     (record { law = λ takings out. becomes.law takings out; geometry = becomes.geometry; grounds = becomes.grounds })

@@ -157,7 +157,8 @@ returns-then-was_full-clause-back c =
     (out-element s c.self.invariant c.args.class c.args.spot.chunk c.args.spot.page c.args.index c.args.piece x o
     found)) refl refl refl
     (full-back s c.args.class c.args.spot.chunk c.args.spot.page o.elements c.index_mut.result.now c.enter.new.self
-    (with_item s.fronts c.args.class c.enter.new.self).items front (ap (λ (f : SubpagesState). f.spots) c.enter.ensures)
+    (with_item s.fronts c.args.class c.enter.new.self).items front (ap (λ
+    (f : SubpagesState). f.subpages) c.enter.ensures)
     refl full))
 
 pub returns-else-was_full-clause-back : goal.returns-else-was_full-clause-back

@@ -115,7 +115,8 @@ returns-then-is_full c =
     c.take_element-piece.new.self found o c.take_element-piece.result out refl refl refl
     (full-fronts s c.args.class c.args.spot.chunk c.args.spot.page (with_out o.elements out.element)
     c.index_mut.result.now c.leave.new.self
-    (with_item s.fronts c.args.class c.leave.new.self).items front (ap (λ (f : SubpagesState). f.spots) c.leave.ensures)
+    (with_item s.fronts c.args.class c.leave.new.self).items front (ap (λ
+    (f : SubpagesState). f.subpages) c.leave.ensures)
     refl full))
 
 pub returns-else-is_full : goal.returns-else-is_full

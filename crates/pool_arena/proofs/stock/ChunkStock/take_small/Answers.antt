@@ -6,7 +6,7 @@ use Rattle.pool_arena.proofs.stock.ChunkStock.take_small.Goals as goal
 pub take_element-piece-requires-clause-room : goal.take_element-piece-requires-clause-room
 take_element-piece-requires-clause-room c =
     let v = c.args.self.now in
-    let first = first-is c.index.result.now.spots c.in-Some.spot (c.in-Some.ensures {u = tt}) in
+    let first = first-is c.index.result.now.subpages c.in-Some.spot (c.in-Some.ensures {u = tt}) in
     open-first v v.geometry c.requires.orderly c.args.class c.in-Some.spot.chunk c.in-Some.spot.page first.0
     c.requires.class.1
     (front-seen c.self.inside v c.args.class c.index.result.now c.self.invariant c.self.view_is c.requires.class.0
@@ -15,7 +15,7 @@ take_element-piece-requires-clause-room c =
 pub returns-in-Some-clause-some : goal.returns-in-Some-clause-some
 returns-in-Some-clause-some c =
     let v = c.args.self.now in
-    let first = first-is c.index.result.now.spots c.in-Some.spot (c.in-Some.ensures {u = tt}) in
+    let first = first-is c.index.result.now.subpages c.in-Some.spot (c.in-Some.ensures {u = tt}) in
     small-first v c.args.class c.requires.class.1 c.take_element-piece.new.self c.in-Some.spot.chunk c.in-Some.spot.page
     first.0 c.take_element-piece.result
     (front-seen c.self.inside v c.args.class c.index.result.now c.self.invariant c.self.view_is c.requires.class.0
