@@ -9,7 +9,7 @@ use crate::home::Home;
 use crate::pool::SharedPool;
 use crate::root_place::{Root, RootPlace};
 use crate::seat::{PoolSeat, TableSeat};
-use crate::spent_homes::{spend, spend_all};
+use crate::spent_homes::{spend, spend_all, spend_place};
 use handle_bin::Bin;
 use pool_arena::Arena;
 use pool_law::Shape;

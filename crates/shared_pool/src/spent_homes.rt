@@ -21,7 +21,7 @@ pub(crate) fn spend(home: Home) {
     }
 }
 
-fn spend_place(place: RootPlace) {
+pub(crate) fn spend_place(place: RootPlace) {
     let RootPlace {
         generation: _,
         last: _,
