@@ -10,7 +10,7 @@ ghost use Rattle.shared_pool.specs.RootPlaces.{last_generation};
 ghost use Rattle.shared_pool.specs.PlaceViews.{root_seen};
 ghost use Rattle.shared_pool.specs.PlaceSteps.{MayAccess, Accesses, shown, cleared, born_root, with_born, vacated};
 
-mod held;
+mod held_bytes;
 
 use ground::Piece;
 use handle_bin::Handle;
