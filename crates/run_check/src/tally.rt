@@ -6,7 +6,7 @@ ghost use Rattle.pool_law.specs.declared.id.RootId.{RootId};
 ghost use Rattle.pool_law.specs.Same.{same_root};
 ghost use Rattle.run_check.specs.Tallying.{no_sums, sums_in, sums_after, sums_from, total_sums, others_sum, AreAtMost, IsTally};
 
-mod sums;
+mod root_sums;
 
 use pool_law::{Did, LaneLog, Note, RootId};
 use std::alloc::{AllocError, Global};
