@@ -125,14 +125,14 @@ module _ (logs : Logs) where
 
   -- the use that gave a region its uses
   pub record UseOf (start : RegionId) (ts : List Happening) (v : Happening) : Type 0 where
-    pub use : Happening
+    pub begin : Happening
     pub root : RootId
     pub region : RegionId
-    pub is : use.move ≡ Begins root region
-    pub among : IsAmong use ts
+    pub is : begin.move ≡ Begins root region
+    pub among : IsAmong begin ts
     pub uses : region.uses ≡ uses_of v
     pub taking : with_uses 0 region ≡ with_uses 0 start
-    pub order : (use ≡ v) ⊎ Reaches logs use.event v.event
+    pub order : (begin ≡ v) ⊎ Reaches logs begin.event v.event
 
   pub use-of : (w : Where) (r : RegionId) (t : Happening) (ts : List Happening) (v : Happening)
       → LivesOn w r (moves_of ts) → InOrder logs t ts → IsAmong v ts → r.uses < uses_of v → UseOf r ts v
@@ -143,7 +143,7 @@ module _ (logs : Logs) where
       let b = o.begins (omega (arith, more, own)) in
       let uses : b.1.uses ≡ uses_of g = sym (ap (λ (m : Move). (region_of m).uses) b.2) in
       record {
-        use = g;
+        begin = g;
         root = b.0;
         region = b.1;
         is = b.2;
@@ -159,7 +159,7 @@ module _ (logs : Logs) where
       (λ later.
       let u : UseOf o.region gs v = use-of o.to o.region g gs v o.rest order.1.1 among later in
       record {
-        use = u.use;
+        begin = u.begin;
         root = u.root;
         region = u.region;
         is = u.is;
@@ -172,7 +172,7 @@ module _ (logs : Logs) where
       let b = o.begins (omega (arith, more, here, o.same)) in
       let uses : b.1.uses ≡ uses_of g = sym (ap (λ (m : Move). (region_of m).uses) b.2) in
       record {
-        use = g;
+        begin = g;
         root = b.0;
         region = b.1;
         is = b.2;

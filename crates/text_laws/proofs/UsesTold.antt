@@ -184,27 +184,27 @@ module _ (shape : Shape) (logs : Logs) (holds : HistoriesPaged shape logs) (acts
   use-before more =
       let u : UseOf logs (with_uses 0 r) life.later t =
       use-of logs Got (with_uses 0 r) life.take life.later t life.lives life.order at_t more in
-      let g : Happens logs u.use = among-happens logs life.take life.later u.use life.order u.among in
-      let does : Does logs (Begins u.root u.region) u.use.event =
-      subst (λ m. Does logs m u.use.event) u.is (told logs u.use g) in
+      let g : Happens logs u.begin = among-happens logs life.take life.later u.begin life.order u.among in
+      let does : Does logs (Begins u.root u.region) u.begin.event =
+      subst (λ m. Does logs m u.begin.event) u.is (told logs u.begin g) in
       record {
-        lane = u.use.event.lane;
-        at = u.use.event.at;
-        note = At u.use.event.object u.use.event.number u.use.event.did;
-        begun_is = begun_at (place_of u.use.event.object) u.use.event.number u.region;
+        lane = u.begin.event.lane;
+        at = u.begin.event.at;
+        note = At u.begin.event.object u.begin.event.number u.begin.event.did;
+        begun_is = begun_at (place_of u.begin.event.object) u.begin.event.number u.region;
         stands = g.stands;
         says =
             keyed-own (λ (x : Begun). taking_key x.1) (taking_key r)
-            (begun (At u.use.event.object u.use.event.number u.use.event.did))
-            (begun_at (place_of u.use.event.object) u.use.event.number u.region)
-            (ap (λ (o : Option RegionId). option_map (begun_at (place_of u.use.event.object) u.use.event.number) o)
-            (uses-begun u.use.event.did u.region (as-uses u.root u.region u.use.event does)))
+            (begun (At u.begin.event.object u.begin.event.number u.begin.event.did))
+            (begun_at (place_of u.begin.event.object) u.begin.event.number u.region)
+            (ap (λ (o : Option RegionId). option_map (begun_at (place_of u.begin.event.object) u.begin.event.number) o)
+            (uses-begun u.begin.event.did u.region (as-uses u.root u.region u.begin.event does)))
             (ap taking_key u.taking);
         uses = u.uses;
         first =
             ⊎_elim
             (λ same. absurd (no_use u.root u.region (ap (λ (z : Happening). z.move) (sym same) ∙ u.is)))
-            (λ reaches. before u.use t g h reaches)
+            (λ reaches. before u.begin t g h reaches)
             u.order;
       }
 
