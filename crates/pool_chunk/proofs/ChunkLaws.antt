@@ -1,10 +1,10 @@
 -- What a chunk keeps when a run is taken or given back, and when the elements of a subpage change.
-use Rattle.std.proofs.Common.{◌≡◌, ℕ, zero, suc, ◌+◌, ◌-◌, ◌<◌, ◌≤◌, List, [], ◌∷◌, ◌++◌, length, refl, sym, ◌∙◌, subst, arith, eq-eqb, ne_eqb}
+use Rattle.std.proofs.Common.{◌≡◌, ℕ, zero, suc, ◌+◌, ◌-◌, ◌<◌, ◌≤◌, List, [], ◌∷◌, ◌++◌, length, refl, ◌∙◌, subst, arith, eq-eqb, ne_eqb}
 use Rattle.std.specs.Prelude.{Bool, true, false, not, ◌==◌, slice_get, slice_set, unwrap_or, Option, Some, None}
 use Rattle.std.proofs.lemmas.List.Quantifiers.{position-Some}
 use Rattle.std.proofs.lemmas.List.{length-set, length-replicate}
 use Rattle.size_classes.specs.Sizes.{Geometry, is_small, subpage_pages, element_count}
-use Rattle.size_classes.specs.Pages.{Run, Free, Used, pages_in, total_pages, free_pages, rest_of, front_used, freed, replaced, taken_at, given_at, merged, begins_free, NoneEmpty, NoneSideBySide}
+use Rattle.size_classes.specs.Pages.{Run, Free, Used, pages_in, total_pages, free_pages, rest_of, front_used, freed, replaced, taken_at, given_at, begins_free, NoneEmpty, NoneSideBySide}
 use Rattle.size_classes.specs.Runs.{Begins, EachRun}
 use Rattle.size_classes.specs.Elements.{Elements, new_elements, first_free, first_of_two, next_element, with_out, with_back, is_out}
 use Rattle.size_classes.proofs.ElementLaws.{out_within}

@@ -1,5 +1,5 @@
 -- A chunk and one of its subpages: what the run that is cut has, and the chunk after its elements change.
-use Rattle.std.proofs.Common.{◌≡◌, ℕ, ◌+◌, ◌*◌, ◌^◌, ◌<◌, List, length, get_or, Some, None, refl, sym, ap, ap₂, ◌∙◌, subst, arith, zero-add}
+use Rattle.std.proofs.Common.{◌≡◌, ℕ, ◌+◌, ◌*◌, ◌<◌, List, length, get_or, Some, None, sym, ap, ap₂, ◌∙◌, subst, arith, zero-add}
 use Rattle.std.specs.Prelude.{map, slice_set, vec_len, Option, IfNone, IfSome}
 use Rattle.ground.specs.Ground.{Segment}
 use Rattle.size_classes.specs.Sizes.{page_of, size_at, element_count}
@@ -8,7 +8,7 @@ use Rattle.size_classes.specs.Runs.{Begins}
 use Rattle.size_classes.specs.Elements.{Elements, next_element, with_out}
 use Rattle.size_classes.proofs.Runs.{Begins-run_at}
 use Rattle.subpage_bits.specs.Elements.{SharedRun, IsElementOf}
-use Rattle.pool_law.specs.Chunks.{Use, Sub, IsSubpage}
+use Rattle.pool_law.specs.Chunks.{Sub, IsSubpage}
 use Rattle.pool_chunk.specs.declared.slot.PageUse.{PageUse}
 use Rattle.pool_chunk.specs.declared.slot.CutRun.{CutRun}
 use Rattle.pool_chunk.specs.declared.chunk.Chunk.TheInside.{Inside}

@@ -1,6 +1,6 @@
 -- The entries of a chunk's pages: with the free runs they make the chunk again, and what each change of the chunk makes
 -- of them.
-use Rattle.std.proofs.Common.{◌≡◌, ℕ, zero, suc, ◌+◌, ◌-◌, ◌<◌, ◌≤◌, List, [], ◌∷◌, ◌++◌, length, get_or, replicate, Some, None, refl, sym, ap, ap₂, ◌∙◌, subst, arith, eq-eqb, ne_eqb, append_assoc}
+use Rattle.std.proofs.Common.{◌≡◌, ℕ, zero, suc, ◌+◌, ◌-◌, ◌<◌, ◌≤◌, List, [], ◌∷◌, ◌++◌, length, get_or, replicate, Some, None, refl, sym, ap, ◌∙◌, subst, arith, eq-eqb, ne_eqb, append_assoc}
 use Rattle.std.specs.Prelude.{true, false, ◌==◌, slice_set}
 use Rattle.std.proofs.lemmas.List.{set-append_left, set-append_right, get_or-append-add, get_or_append_left, length-append, append-nil, replicate-append-replicate, length-replicate, get_or-replicate}
 use Rattle.size_classes.specs.Pages.{Run, Free, Used, Span, pages_in, total_pages, free_runs, rest_of, front_used, freed, joined, merged, replaced, taken_at, given_at, NoneEmpty}

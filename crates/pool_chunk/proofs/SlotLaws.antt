@@ -1,19 +1,19 @@
 -- The slots of a chunk, by its runs.
 use Rattle.std.proofs.Common.{Vec, Global, ◌≡◌, ℕ, zero, suc, ◌+◌, ◌<◌, List, [], ◌∷◌, length, get_or, replicate, Some, None, refl, sym, ap, ◌∙◌, subst, arith}
-use Rattle.std.specs.Prelude.{map, slice_set, Option}
+use Rattle.std.specs.Prelude.{map, slice_set}
 use Rattle.std.proofs.Math.ListN.{get_or-map}
 use Rattle.std.specs.Vec.{with_items}
 use Rattle.std.proofs.lemmas.List.{get_or_default, length-map, length-set, map-set, with_items_is}
 use Rattle.ground.specs.Ground.{Origin}
 use Rattle.size_classes.specs.Sizes.{Geometry}
-use Rattle.size_classes.specs.Pages.{Run, Free, Used, Span, pages_in, total_pages}
+use Rattle.size_classes.specs.Pages.{Run, Free, Used, Span, total_pages}
 use Rattle.size_classes.specs.Runs.{Begins}
 use Rattle.size_classes.specs.Elements.{Elements}
 use Rattle.size_classes.proofs.Runs.{Begins-inside}
 use Rattle.pool_law.specs.Chunks.{Chunk, Use, Whole, Sub}
 use Rattle.pool_chunk.specs.declared.slot.PageUse.{PageUse}
 use Rattle.pool_chunk.specs.declared.slot.CutRun.{CutRun}
-use Rattle.pool_chunk.specs.Slots.{PageEntry, entry_of, entries, AreOf, IsCutAt, IsPlaced, ArePlaced}
+use Rattle.pool_chunk.specs.Slots.{PageEntry, entry_of, AreOf, IsPlaced, ArePlaced}
 use Rattle.pool_chunk.proofs.Entries.{length-entries, entry_in, entries-at, entries-inside}
 use Rattle.pool_chunk.proofs.ChunkLaws.{run-some}
 

@@ -1,13 +1,13 @@
 -- Where the run begins in which a page lies, by the slots of a chunk.
-use Rattle.std.proofs.Common.{◌≡◌, ℕ, ◌+◌, ◌<◌, ◌≤◌, length, get_or, Some, ◌∙◌, sym, subst, arith}
+use Rattle.std.proofs.Common.{◌≡◌, ℕ, ◌<◌, ◌≤◌, get_or, ◌∙◌, sym, subst, arith}
 use Rattle.std.specs.Prelude.{◌⊎◌, vec_len}
 use Rattle.std.proofs.lemmas.Bool.{cases_lt}
-use Rattle.size_classes.specs.Pages.{Used, run_at, run_start}
+use Rattle.size_classes.specs.Pages.{Used, run_start}
 use Rattle.size_classes.specs.Runs.{Begins}
 use Rattle.size_classes.proofs.Runs.{Begins-inside, Begins-run_at, run_start-Begins}
 use Rattle.pool_chunk.specs.declared.slot.PageUse.{PageUse}
 use Rattle.pool_chunk.specs.declared.chunk.Chunk.TheInside.{Inside}
-use Rattle.pool_chunk.specs.ChunkStates.{ChunkState, IsInUse}
+use Rattle.pool_chunk.specs.ChunkStates.{IsInUse}
 use Rattle.pool_chunk.specs.Held.{runs_in, state_in, IsHeld}
 use Rattle.pool_chunk.proofs.SlotLaws.{length-slots, slot-some, slot-inside}
 use mathlib.Core.Logic.{inl, inr}

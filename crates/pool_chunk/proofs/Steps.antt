@@ -1,12 +1,12 @@
 -- The free runs and the entries of a chunk, and what each change of the chunk makes of them.
-use Rattle.std.proofs.Common.{◌≡◌, ℕ, zero, suc, ◌+◌, ◌-◌, ◌*◌, ◌<◌, ◌≤◌, ◌^◌, List, [], ◌∷◌, length, get_or, Some, None, refl, sym, ap, ◌∙◌, subst, arith, zero-add, eq-eqb, ne_eqb}
+use Rattle.std.proofs.Common.{◌≡◌, ℕ, zero, suc, ◌+◌, ◌-◌, ◌*◌, ◌<◌, ◌≤◌, List, [], ◌∷◌, Some, None, refl, sym, ap, ◌∙◌, subst, arith, zero-add, eq-eqb, ne_eqb}
 use Rattle.std.specs.Prelude.{◌⊎◌, true, false, ◌==◌, All, sum, slice_set, Option}
 use Rattle.std.proofs.Math.Nat.{mul_comm}
 use Rattle.std.proofs.Math.Nat.{mul-add}
 use Rattle.std.proofs.lemmas.Bool.{cases_lt, cases_eq}
 use Rattle.std.proofs.lemmas.List.Sums.{sum_by-cons}
 use Rattle.size_classes.specs.Sizes.{Geometry, page_of, chunk_pages, chunk_bytes}
-use Rattle.size_classes.specs.Pages.{Run, Free, Used, Span, pages_in, total_pages, free_pages, add_free, free_runs, chosen, taken_at, given_at, NoneEmpty}
+use Rattle.size_classes.specs.Pages.{Free, Used, Span, pages_in, free_pages, add_free, free_runs, chosen, taken_at, given_at, NoneEmpty}
 use Rattle.size_classes.specs.Spans.{run_lengths, taken_from, given_back, AreApart, IsOut}
 use Rattle.size_classes.specs.Runs.{Begins}
 use Rattle.size_classes.specs.Elements.{Elements}
@@ -14,7 +14,7 @@ use Rattle.size_classes.proofs.Runs.{Begins-apart, Begins-inside, Begins-one, Is
 use Rattle.size_classes.proofs.SpanLaws.{free_runs-taken, free_runs-given}
 use Rattle.pool_law.specs.Chunks.{Chunk, Use, Sub, IsSubpage, IsChunk, used_pages, used_bytes, free_bytes}
 use Rattle.pool_chunk.specs.ChunkStates.{with_elements}
-use Rattle.pool_chunk.specs.Slots.{PageEntry, entries, runs_from, AreOf}
+use Rattle.pool_chunk.specs.Slots.{PageEntry, runs_from, AreOf}
 use Rattle.pool_chunk.proofs.Entries.{runs_from-entries, entries-taken, entries-given, entries-elements}
 use Rattle.pool_chunk.proofs.ChunkLaws.{Fits, run-some, taken-chunk, given-chunk, elements-chunk, used-free}
 use mathlib.Core.Logic.{inl, inr}

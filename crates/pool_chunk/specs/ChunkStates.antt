@@ -1,8 +1,8 @@
 -- What contracts see of a `Chunk`: the law's list of its runs, and the ground on which it stands.
-use Rattle.std.specs.Prelude.{◌≡◌, ℕ, ◌+◌, ◌*◌, ◌/◌, ◌^◌, ◌<◌, ◌≤◌, ◌⊎◌, Bool, true, List, [], ◌∷◌, length, Some}
+use Rattle.std.specs.Prelude.{◌≡◌, ℕ, ◌+◌, ◌*◌, ◌/◌, ◌^◌, ◌<◌, ◌≤◌, ◌⊎◌, true, [], ◌∷◌, length, Some}
 use Rattle.ground.specs.Ground.{Origin, Segment, IsWhole}
 use Rattle.size_classes.specs.Sizes.{Geometry, of_pages, page_of, chunk_bytes, size_at}
-use Rattle.size_classes.specs.Pages.{Run, Used, pages_in, replaced, run_at}
+use Rattle.size_classes.specs.Pages.{Used, pages_in, replaced, run_at}
 use Rattle.size_classes.specs.Elements.{Elements, is_out, is_idle}
 use Rattle.pool_law.specs.Chunks.{Chunk, Use, Whole, Sub, new_chunk}
 use Rattle.pool_chunk.specs.PlaceWords.{run_word, element_word}

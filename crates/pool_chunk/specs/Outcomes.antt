@@ -1,7 +1,7 @@
 -- What the calls of a `Chunk` make of it, in the law's words.
-use Rattle.std.specs.Prelude.{◌≡◌, ℕ, ◌*◌, if◌then◌else◌, Some}
+use Rattle.std.specs.Prelude.{◌≡◌, ℕ, if◌then◌else◌, Some}
 use Rattle.ground.specs.Ground.{Segment}
-use Rattle.size_classes.specs.Sizes.{Geometry, page_of, size_at, subpage_pages, element_count}
+use Rattle.size_classes.specs.Sizes.{Geometry, size_at, subpage_pages, element_count}
 use Rattle.size_classes.specs.Pages.{Span, free_runs, chosen, taken_at, given_at}
 use Rattle.size_classes.specs.Elements.{Elements, new_elements, next_element, with_out, with_back, is_idle}
 use Rattle.pool_law.specs.Chunks.{Use, Whole, Sub}

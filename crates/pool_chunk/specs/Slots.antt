@@ -1,6 +1,6 @@
 -- What begins at each page of a chunk, and the list of runs that this makes with the free runs.
 -- No public clause cites this module.
-use Rattle.std.specs.Prelude.{◌≡◌, ℕ, zero, suc, ◌+◌, ◌-◌, ◌*◌, ◌<◌, List, [], ◌∷◌, ◌++◌, replicate, Option, Some, None, ⊤}
+use Rattle.std.specs.Prelude.{◌≡◌, ℕ, zero, suc, ◌+◌, ◌-◌, ◌*◌, List, [], ◌∷◌, ◌++◌, replicate, Option, Some, None, ⊤}
 use Rattle.ground.specs.Ground.{Origin, Segment}
 use Rattle.size_classes.specs.Sizes.{Geometry, size_at}
 use Rattle.size_classes.specs.Pages.{Run, Free, Used, Span, free_runs}

@@ -1,4 +1,4 @@
-use Rattle.std.proofs.Common.{◌≡◌, ℕ, refl, sym, ap, ◌∙◌, subst}
+use Rattle.std.proofs.Common.{◌≡◌, ℕ, refl, ap, ◌∙◌, subst}
 use Rattle.pool_chunk.specs.ChunkStates.{IsElementOut}
 use Rattle.pool_chunk.specs.Outcomes.{run_back, element_back, freed_by}
 use Rattle.pool_chunk.proofs.PlaceLaws.{run-page, run-sub, run-out, element-page, element-index, element-sub, element-out}

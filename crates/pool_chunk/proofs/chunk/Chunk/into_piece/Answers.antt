@@ -1,11 +1,10 @@
 use Rattle.std.proofs.Common.{◌≡◌, ℕ, ◌^◌, List, [], ◌∷◌, replicate, None, sym, ap, ◌∙◌, subst}
 use Rattle.std.proofs.lemmas.List.{append-nil}
 use Rattle.size_classes.specs.Sizes.{chunk_pages}
-use Rattle.size_classes.specs.Pages.{Span, free_runs}
+use Rattle.size_classes.specs.Pages.{free_runs}
 use Rattle.pool_law.specs.Chunks.{Chunk, new_chunk}
 use Rattle.pool_chunk.specs.ChunkStates.{ChunkState}
 use Rattle.pool_chunk.specs.Slots.{PageEntry, entries}
-use Rattle.pool_chunk.specs.Held.{runs_in}
 use Rattle.pool_chunk.proofs.SlotLaws.{all-nothing}
 use Rattle.pool_chunk.proofs.chunk.Chunk.into_piece.Goals as goal
 

@@ -1,7 +1,6 @@
 use Rattle.std.proofs.Common.{◌≡◌, sym, ap, ◌∙◌, subst}
 use Rattle.size_classes.specs.Elements.{is_full}
 use Rattle.pool_chunk.specs.ChunkStates.{ChunkState, HasSubpage}
-use Rattle.pool_chunk.specs.Held.{state_in}
 use Rattle.pool_chunk.proofs.CutLaws.{cut-room, cut-no_other, cut-is}
 use Rattle.pool_chunk.proofs.chunk.Chunk.is_full_subpage.Goals as goal
 

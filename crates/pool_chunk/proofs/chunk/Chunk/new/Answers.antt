@@ -1,4 +1,4 @@
-use Rattle.std.proofs.Common.{◌≡◌, ℕ, ◌/◌, ◌^◌, List, length, replicate, sym, ap, ◌∙◌, subst}
+use Rattle.std.proofs.Common.{ℕ, ◌/◌, ◌^◌, replicate, sym, ap, ◌∙◌, subst}
 use Rattle.size_classes.specs.Sizes.{IsGeometry, of_pages}
 use Rattle.pool_chunk.specs.declared.slot.PageUse.{PageUse}
 use Rattle.pool_chunk.proofs.HeldLaws.{new-state, new-held, ground-pages}

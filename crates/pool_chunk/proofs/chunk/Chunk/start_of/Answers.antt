@@ -1,4 +1,4 @@
-use Rattle.std.proofs.Common.{◌≡◌, ℕ, ◌<◌, ◌≤◌, refl, sym, subst, arith}
+use Rattle.std.proofs.Common.{◌≡◌, ℕ, ◌<◌, ◌≤◌, sym, subst, arith}
 use Rattle.size_classes.specs.Pages.{run_start}
 use Rattle.pool_law.specs.Chunks.{IsChunk}
 use Rattle.pool_chunk.specs.ChunkStates.{ChunkState, IsInUse}

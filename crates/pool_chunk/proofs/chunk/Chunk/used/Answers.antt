@@ -1,4 +1,4 @@
-use Rattle.std.proofs.Common.{◌≡◌, ◌+◌, ◌-◌, ◌≤◌, ◌∙◌, subst, arith}
+use Rattle.std.proofs.Common.{◌≡◌, ◌+◌, ◌-◌, ◌∙◌, subst, arith}
 use Rattle.size_classes.specs.Sizes.{chunk_bytes}
 use Rattle.pool_law.specs.Chunks.{used_bytes, free_bytes}
 use Rattle.pool_chunk.specs.ChunkStates.{ChunkState}
