@@ -21,4 +21,3 @@ pub mod Opened
 pub mod Ended
 mod Skips
 pub mod Returns
-pub mod Beginnings

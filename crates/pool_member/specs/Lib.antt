@@ -17,4 +17,3 @@ pub mod Closing
 pub mod Watching
 pub mod Allotting
 pub mod Growing
-pub mod Beginnings

@@ -25,4 +25,3 @@ pub mod GrowReads
 pub mod Handles
 pub mod RegionNotes
 pub mod GrowthNotes
-pub mod Beginnings

@@ -8,4 +8,3 @@ pub mod Readings
 pub mod Answers
 pub mod Names
 pub mod Regrowths
-pub mod Beginnings

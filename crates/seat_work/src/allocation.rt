@@ -165,7 +165,7 @@ fn allocate_at<W: Wait>(
 // The same, with a region of the lane's arena. Here the copy of the handle is made that goes to the
 // call, and not at the head of each allocation.
 #[inline(always)]
-pub(crate) fn allocate_taken<W: Wait>(
+fn allocate_taken<W: Wait>(
     rt: &W,
     pool: &SharedPool,
     seat: &mut PoolSeat,

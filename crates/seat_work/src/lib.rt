@@ -5,7 +5,6 @@
 
 mod access;
 mod allocation;
-mod beginning;
 mod birth;
 mod counts;
 mod ending;
@@ -16,7 +15,6 @@ mod regrowth;
 
 pub use access::{get, set, with_bytes, with_bytes_mut};
 pub use allocation::{AllocNo, allocate};
-pub use beginning::{Stop, begin, go_on};
 pub use counts::{release, retain};
 pub use hand_over::{fetch, post};
 pub use regrowth::{GrowNo, grow};

@@ -24,7 +24,8 @@ use crate::pool::Pool;
 use crate::thread::PoolThread;
 use byte_view::View;
 use pool_law::RootId;
-use pool_member::work::{allocation, counting, settling};
+use pool_member::work::allocation::allocate;
+use pool_member::work::{counting, settling};
 use pool_member::{AccessNo, AllocNo};
 use seat_tries::Begun;
 use std::marker::PhantomData;
@@ -40,7 +41,6 @@ impl<B: PoolName> PoolThread<B> {
     /// once. A refusal leaves its counts as they were, and which of its next buffers are watched;
     /// for want of turns, and where the buffer is too large, nothing has changed. Nothing is left to
     /// put away of what calls that never wait began.
-    #[inline(always)]
     pub fn alloc<W: Wait>(
         &mut self,
         rt: &W,
@@ -77,13 +77,7 @@ impl<B: PoolName> PoolThread<B> {
         if self.member.account.turns < ALLOC_TURNS {
             return Err(AllocNo::Spent);
         }
-        // It waits only where the first steps stopped.
-        let shared = &pool.shared;
-        let born = match allocation::begin(shared, &mut self.member, size, class) {
-            Ok(root) => Ok(root),
-            Err(stopped) => allocation::go_on(rt, shared, &mut self.member, stopped, size, class),
-        };
-        match born {
+        match allocate(rt, &pool.shared, &mut self.member, size, class) {
             Ok(root) => {
                 // LLVM keeps a root in registers only where it is made anew here.
                 let RootId {
@@ -136,7 +130,7 @@ impl<B: PoolName> PoolThread<B> {
         }
         buffer.leave();
         let member = &mut self.member;
-        // It waits only where there is something to put away.
+        // Waits only where there is something to put away.
         if !settling::is_nothing(&member.pending) {
             settling::settle(rt, &pool.shared, member);
         }

@@ -1,6 +1,6 @@
 //! How a thread allocates.
 
-ghost use Rattle.std.specs.Prelude.{◌≡◌, ◌<◌, ◌≤◌, None, Ok, Some, IfOk, IfErr, MatchResult};
+ghost use Rattle.std.specs.Prelude.{◌≡◌, ◌<◌, ◌≤◌, None, Some, IfOk, IfErr, MatchResult};
 ghost use Rattle.size_classes.specs.Sizes.{class_of};
 ghost use Rattle.pool_law.specs.Limits.{geometry_of};
 ghost use Rattle.seat_work.specs.Answers.{allocated};
@@ -8,18 +8,16 @@ ghost use Rattle.seat_work.specs.Works.{HasBorn};
 ghost use Rattle.pool_member.specs.Counting.{counted};
 ghost use Rattle.seat_tries.specs.Allocations as tries;
 ghost use Rattle.pool_member.specs.Allotting.{BearsOf, IsAllotted, IsRefused, IsTryRefused, TriesOf};
-ghost use Rattle.pool_member.specs.declared.member.Member.{Member};
 ghost use Rattle.pool_member.specs.Answers.{as_alloc, HasCause};
 ghost use Rattle.pool_member.specs.Attempts.{as_try, HasTryCause};
-ghost use Rattle.pool_member.specs.Beginnings.{AllocatesRoot, HasBegun, MayGoOn};
 ghost use Rattle.pool_member.specs.Threads.{Does, IsSettled, IsThread};
 ghost use Rattle.pool_member.specs.Watching.{watch_next, with_next};
 
 use crate::member::Member;
 use crate::pending::Pending;
-use crate::work::settling::{is_nothing, keep, settle, try_settle};
+use crate::work::settling::{keep, settle, try_settle};
 use pool_law::RootId;
-use seat_work::{AllocNo, Stop};
+use seat_work::AllocNo;
 use shared_pool::SharedPool;
 use std::sync::Wait;
 
@@ -55,109 +53,6 @@ pub fn allocate<W: Wait>(
     member.account.turns -= 6;
     let watch = member.watcher.watch();
     match seat_work::allocate(rt, pool, &mut member.seat, size, class, watch) {
-        Ok(root) => {
-            member.account.counts.add(root);
-            member.watcher.count();
-            Ok(root)
-        }
-        Err(no) => Err(no),
-    }
-}
-
-/// The same in two parts, of which the first never waits. It makes the first steps of an allocation
-/// where nothing is to be put away and the root is not to be watched: a new root, or where it
-/// stopped; none where it didn't begin.
-#[inline(always)]
-pub fn begin(
-    pool: &SharedPool,
-    member: &mut Member,
-    size: u32,
-    class: u32,
-) -> Result<RootId, Option<Stop>>
-    requires thread { IsThread pool.now member.old }
-    requires turns { 6 ≤ member.old.account.turns }
-    requires class { class_of (geometry_of pool.now.table.layout.shape) size ≡ Some class }
-    ensures allocates { IfOk result (λ root.
-        AllocatesRoot pool.now size (Ok root) member.old member.new) }
-    ensures stopped { IfErr result (MayGoOn pool.now size class member.old member.new) }
-{
-    if !is_nothing(&member.pending) {
-        return Err(None);
-    }
-    if !member.watcher.is_quiet() {
-        return Err(None);
-    }
-    match seat_work::begin(pool, &mut member.seat, size, class) {
-        Ok(root) => {
-            member.account.turns -= 6;
-            member.account.counts.add(root);
-            member.watcher.count_quiet();
-            Ok(root)
-        }
-        Err(stop) => Err(Some(stop)),
-    }
-}
-
-/// The second part: it answers as an allocation does, from before the first one on. Here the copy of
-/// what is in hand is made that goes to the call, and not at the head of each allocation.
-#[inline(always)]
-pub fn go_on<W: Wait>(
-    rt: &W,
-    pool: &SharedPool,
-    member: &mut Member,
-    stopped: Option<Stop>,
-    size: u32,
-    class: u32,
-) -> Result<RootId, AllocNo>
-    requires stopped { (first : Member) × IsThread pool.now first × (6 ≤ first.account.turns)
-        × MayGoOn pool.now size class first member.old stopped }
-    requires class { class_of (geometry_of pool.now.table.layout.shape) size ≡ Some class }
-    ensures { (first : Member) → IsThread pool.now first →
-        MayGoOn pool.now size class first member.old stopped →
-        AllocatesRoot pool.now size result first member.new }
-{
-    go_on_apart(rt, pool, member, stopped, size, class)
-}
-
-// The same: seldom, so apart.
-#[inline(never)]
-fn go_on_apart<W: Wait>(
-    rt: &W,
-    pool: &SharedPool,
-    member: &mut Member,
-    stopped: Option<Stop>,
-    size: u32,
-    class: u32,
-) -> Result<RootId, AllocNo>
-    requires stopped { (first : Member) × IsThread pool.now first × (6 ≤ first.account.turns)
-        × MayGoOn pool.now size class first member.old stopped }
-    requires class { class_of (geometry_of pool.now.table.layout.shape) size ≡ Some class }
-    ensures { (first : Member) → IsThread pool.now first →
-        MayGoOn pool.now size class first member.old stopped →
-        AllocatesRoot pool.now size result first member.new }
-{
-    match stopped {
-        None => allocate(rt, pool, member, size, class),
-        Some(stop) => end(rt, pool, member, stop, size, class),
-    }
-}
-
-// The same of steps that were begun.
-fn end<W: Wait>(
-    rt: &W,
-    pool: &SharedPool,
-    member: &mut Member,
-    stop: Stop,
-    size: u32,
-    class: u32,
-) -> Result<RootId, AllocNo>
-    requires begun { (first : Member) × HasBegun pool.now size class first member.old stop }
-    requires class { class_of (geometry_of pool.now.table.layout.shape) size ≡ Some class }
-    ensures { (first : Member) → HasBegun pool.now size class first member.old stop →
-        AllocatesRoot pool.now size result first member.new }
-{
-    member.account.turns -= 6;
-    match seat_work::go_on(rt, pool, &mut member.seat, stop, size, class) {
         Ok(root) => {
             member.account.counts.add(root);
             member.watcher.count();
