@@ -1,5 +1,5 @@
 -- A thread that put away what it had to, and then did some work.
-use Rattle.std.proofs.Common.{◌≡◌, ℕ, ◌+◌, ◌-◌, ◌<◌, ◌≤◌, refl, sym, ap, ◌∙◌, subst, arith, None}
+use Rattle.std.proofs.Common.{◌≡◌, ℕ, ◌+◌, ◌-◌, ◌≤◌, refl, sym, ap, ◌∙◌, subst, arith, None}
 use Rattle.std.proofs.Math.Nat.{le_trans}
 use Rattle.std.specs.Prelude.{Option, Result, Ok, Err, IfErr, IfOk}
 use Rattle.pool_law.specs.declared.id.RootId.{RootId}
@@ -12,12 +12,10 @@ use Rattle.seat_work.specs.Works.{HasBorn}
 use Rattle.seat_work.specs.declared.allocation.AllocNo.{AllocNo as WorkNo}
 use Rattle.seat_work.specs.declared.allocation.AllocNo.TheVariants as work
 use Rattle.seat_work.proofs.Later.{born_on, later_none, later_on}
-use Rattle.seat_work.proofs.Proceeding.{changes_on, changes_then, goes_none}
+use Rattle.seat_work.proofs.Proceeding.{changes_on, goes_none}
 use Rattle.seat_tries.specs.Allocations.{refused, HasCause}
 use Rattle.seat_tries.specs.declared.allocation.AllocNo.{AllocNo as TriesNo}
 use Rattle.seat_tries.specs.declared.allocation.AllocNo.TheVariants as tries
-use Rattle.seat_tries.specs.declared.begun.Begun.{Begun}
-use Rattle.seat_tries.specs.declared.begun.Begun.TheVariants.{Nothing}
 use Rattle.seat_tries.specs.Taking.{taken}
 use Rattle.seat_tries.proofs.Goings.{meets_on}
 use Rattle.pool_member.specs.declared.account.Account.{Account}
@@ -31,8 +29,8 @@ use Rattle.pool_member.specs.Attempts.{as_try, HasTryCause}
 use Rattle.pool_member.specs.Counting.{counted, known}
 use Rattle.pool_member.specs.Pendings.{hand_of, owed, PutsAway}
 use Rattle.pool_member.specs.Returns.{given_with}
-use Rattle.pool_member.specs.Threads.{Does, IsSettled, IsThread, Settles, KeepsOwn, with_left}
-use Rattle.pool_member.proofs.Alone.{keeps, keeps_on, not_none, stays_same}
+use Rattle.pool_member.specs.Threads.{Does, IsSettled, IsThread, Settles, KeepsOwn}
+use Rattle.pool_member.proofs.Alone.{keeps, keeps_on, stays_same}
 use Rattle.pool_member.proofs.AloneLater.{stays_later}
 use Rattle.pool_member.proofs.Keeping.{kept_on, spends_none, tells_known}
 use Rattle.pool_member.proofs.Letters.{later_letters}
@@ -145,39 +143,6 @@ module _ (pool : SharedPool) (old : Member) where
               subst (λ (a : Account). KeepsOwn no_change old.account a) (sym same) (λ r lt none kept. kept);
         };
       }
-
--- ---- What a thread put away behind its work.
-
--- the work is that of the thread from before
-pub does_settled : (pool : SharedPool) (old mid new : Member) (turns : ℕ) (c : Change) (but : Option RootId)
-    → Does pool turns c but old mid → Settles pool mid new → Does pool turns c but old new
-does_settled pool old mid new turns c but it x =
-    let same = same_account pool mid new x in let changed = it.changed in
-    record {
-      thread = x.thread;
-      changed = record {
-        number = ap (λ (a : Account). a.lane) same ∙ changed.number;
-        spent = ap (λ (a : Account). a.turns + turns) same ∙ changed.spent;
-        counts =
-            λ r.
-            (let p = changed.counts r in let q = ap (λ (a : Account). counted a.counts r) same in omega (arith, p, q));
-        notes = changes_then c (view_of old.seat) (view_of mid.seat) (view_of new.seat) changed.notes x.changes;
-        knows =
-            λ r lt.
-            subst (λ (a : Account). known old.account.counts r ≤ known a.counts r) (sym same)
-            (changed.knows r (subst (λ (a : Account). 0 < counted a.counts r) same lt));
-        alone =
-            λ r ne alone.
-            (let a = changed.alone r ne alone in let b = keeps_settled pool mid new x r (not_none r) a.0 in
-            (b.0, b.1 ∙ a.1));
-        owns = subst (λ (a : Account). KeepsOwn c old.account a) (sym same) changed.owns;
-      };
-    }
-
--- a thread that has nothing to put away is as it was, where a try left nothing
-pub none_left : (left : Begun) (m : Member) → left ≡ Nothing → IsSettled m → with_left left m ≡ m
-none_left left m is settled =
-    ap (λ (b : Begun). with_left b m) is ∙ ap (λ (p : Pending). record m { pending = p }) (sym settled)
 
 -- a thread that spends turns alone
 pub spends_only : (pool : SharedPool) (m : Member) (turns : ℕ) (but : Option RootId) → IsThread pool m

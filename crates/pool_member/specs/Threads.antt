@@ -11,12 +11,10 @@ use Rattle.shared_pool.specs.MailAnswers.{HasOwnChannel}
 use Rattle.shared_pool.specs.SeatViews.{view_of}
 use Rattle.seat_work.specs.Changes.{Change, Changes, no_change, times}
 use Rattle.seat_work.specs.Works.{IsLater, Works}
-use Rattle.seat_tries.specs.declared.begun.Begun.{Begun}
 use Rattle.seat_tries.specs.Taking.{taken}
 use Rattle.pool_member.specs.declared.account.Account.{Account}
 use Rattle.pool_member.specs.declared.member.Member.{Member}
 use Rattle.pool_member.specs.declared.pending.Pending.{Pending}
-use Rattle.pool_member.specs.declared.pending.Pending.TheVariants.{Tried}
 use Rattle.pool_member.specs.Alone.{KeepsAlone}
 use Rattle.pool_member.specs.Counting.{counted, is_alone, known, told}
 use Rattle.pool_member.specs.Pendings.{hand_of, nothing, owed, IsPending}
@@ -50,10 +48,6 @@ IsThread pool m = IsKept pool m.pending m.account m.seat
 -- it has nothing to put away
 abbrev pub IsSettled : Member → Type 0
 IsSettled m = m.pending ≡ nothing
-
--- it keeps what a try left
-abbrev pub with_left : Begun → Member → Member
-with_left left m = record m { pending = Tried left }
 
 -- all letters of the pool go by channels of its user
 abbrev pub HasOwnChannels : SharedPool → Type 0

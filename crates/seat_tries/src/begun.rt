@@ -44,7 +44,6 @@ pub fn finish(pool: &SharedPool, seat: &mut PoolSeat, begun: Begun) -> Begun
 }
 
 // The region goes into its owner's cache or back to its arena, and the handle home.
-#[inline(always)]
 pub(crate) fn put_away(
     pool: &SharedPool,
     seat: &mut PoolSeat,
@@ -64,7 +63,6 @@ pub(crate) fn put_away(
 
 // The region goes into its owner's cache, if that takes it, or else back to its arena, and the
 // handle home.
-#[inline(always)]
 fn put_cached(pool: &SharedPool, seat: &mut PoolSeat, handle: Handle, own: Region) -> Begun
     requires works { Works pool.now (with_both handle.place own.id) 3 0 seat.old }
     requires handle { IsHandle pool.now handle }
@@ -79,22 +77,8 @@ fn put_cached(pool: &SharedPool, seat: &mut PoolSeat, handle: Handle, own: Regio
     }
 }
 
-// The region goes back to its arena, and the handle home. Here the copies of both are made that go
-// to the call, and not at the head of each release.
-#[inline(always)]
+// The region goes back to its arena, and the handle home.
 fn give_region(pool: &SharedPool, seat: &mut PoolSeat, handle: Handle, own: Region) -> Begun
-    requires works { Works pool.now (with_both handle.place own.id) 2 0 seat.old }
-    requires handle { IsHandle pool.now handle }
-    requires region { IsRegion pool.now seat.old own }
-    ensures goes { GoesOn pool.now 2 no_change seat.old seat.new result }
-    ensures took { taken seat.new ≡ taken seat.old }
-{
-    give_apart(pool, seat, handle, own)
-}
-
-// The same: seldom, so apart.
-#[inline(never)]
-fn give_apart(pool: &SharedPool, seat: &mut PoolSeat, handle: Handle, own: Region) -> Begun
     requires works { Works pool.now (with_both handle.place own.id) 2 0 seat.old }
     requires handle { IsHandle pool.now handle }
     requires region { IsRegion pool.now seat.old own }
@@ -108,7 +92,6 @@ fn give_apart(pool: &SharedPool, seat: &mut PoolSeat, handle: Handle, own: Regio
 }
 
 // The handle goes home.
-#[inline(always)]
 pub(crate) fn put_handle(pool: &SharedPool, seat: &mut PoolSeat, own: Handle) -> Begun
     requires works { Works pool.now (with_place own.place) 1 0 seat.old }
     requires handle { IsHandle pool.now own }

@@ -18,7 +18,6 @@ use shared_pool::{PoolSeat, Release, Retired, SharedPool};
 /// The seat counts the root once less, and answers what is left to put away. True exactly where
 /// that was the last count of all seats and parcels: the root ended then. Else the seat gets one
 /// move more.
-#[inline(always)]
 pub fn release(pool: &SharedPool, seat: &mut PoolSeat, root: RootId) -> (bool, Begun)
     requires works { Works pool.now empty_hand 4 0 seat.old }
     requires counts { HasCount root (view_of seat.old) }
@@ -32,7 +31,6 @@ pub fn release(pool: &SharedPool, seat: &mut PoolSeat, root: RootId) -> (bool, B
 }
 
 // A root whose count ended, ends.
-#[inline(always)]
 fn end(pool: &SharedPool, seat: &mut PoolSeat, token: EndToken) -> Begun
     requires works { Works pool.now (with_token token.root) 4 0 seat.old }
     requires token { HoldsToken seat.old token }

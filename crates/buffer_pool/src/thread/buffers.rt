@@ -25,9 +25,8 @@ use crate::thread::PoolThread;
 use byte_view::View;
 use pool_law::RootId;
 use pool_member::work::allocation::allocate;
-use pool_member::work::{counting, settling};
+use pool_member::work::counting;
 use pool_member::{AccessNo, AllocNo};
-use seat_tries::Begun;
 use std::marker::PhantomData;
 use std::sync::Wait;
 
@@ -103,7 +102,6 @@ impl<B: PoolName> PoolThread<B> {
     /// Gives a count back. True exactly where it was the last one of all threads and parcels: the
     /// memory went back to the pool then, and nothing is left to put away. A refusal changes nothing,
     /// and hands the buffer back.
-    #[inline(always)]
     pub fn release<W: Wait>(
         &mut self,
         rt: &W,
@@ -129,19 +127,7 @@ impl<B: PoolName> PoolThread<B> {
             return Err(Back { why, buffer });
         }
         buffer.leave();
-        let member = &mut self.member;
-        // Waits only where there is something to put away.
-        if !settling::is_nothing(&member.pending) {
-            settling::settle(rt, &pool.shared, member);
-        }
-        let (last, left) = counting::release_once(&pool.shared, member, root);
-        match left {
-            Begun::Nothing => Ok(last),
-            other => {
-                settling::settle_left(rt, &pool.shared, member, other);
-                Ok(last)
-            }
-        }
+        Ok(counting::release(rt, &pool.shared, &mut self.member, root))
     }
 
     /// Another buffer on the same bytes, with a count of its own, and its reader and its writer

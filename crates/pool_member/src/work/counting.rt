@@ -7,13 +7,12 @@ ghost use Rattle.shared_pool.specs.SeatViews.{HasView, view_of};
 ghost use Rattle.seat_work.specs.Changes.{no_change, once_less, once_more};
 ghost use Rattle.seat_tries.specs.Leaving.{MeetsOther};
 ghost use Rattle.pool_member.specs.Counting.{counted};
-ghost use Rattle.pool_member.specs.Threads.{Does, IsSettled, IsThread, moves_after, Settles, with_left};
+ghost use Rattle.pool_member.specs.Threads.{Does, IsSettled, IsThread, moves_after, Settles};
 
 use crate::member::Member;
 use crate::pending::Pending;
-use crate::work::settling::{keep, settle, settle_left, try_settle};
+use crate::work::settling::{keep, settle, try_settle};
 use pool_law::RootId;
-use seat_tries::Begun;
 use shared_pool::SharedPool;
 use std::sync::Wait;
 
@@ -46,29 +45,11 @@ pub fn release<W: Wait>(rt: &W, pool: &SharedPool, member: &mut Member, root: Ro
     ensures moves { member.new.account.moves ≡ moves_after result member.old.account.moves }
 {
     settle(rt, pool, member);
-    let (last, left) = release_once(pool, member, root);
-    settle_left(rt, pool, member, left);
-    last
-}
-
-/// The same of a thread that has nothing to put away, and never waits: what is left to put away is
-/// answered, and the thread is one of the pool again once it keeps that.
-#[inline(always)]
-pub fn release_once(pool: &SharedPool, member: &mut Member, root: RootId) -> (bool, Begun)
-    requires thread { IsThread pool.now member.old }
-    requires settled { IsSettled member.old }
-    requires counts { 0 < counted member.old.account.counts root }
-    requires turns { 4 ≤ member.old.account.turns }
-    ensures does { Does pool.now 4 (once_less root result.0) None member.old
-        (with_left result.1 member.new) }
-    ensures settled { IsSettled member.new }
-    ensures moves { member.new.account.moves ≡ moves_after result.0 member.old.account.moves }
-{
     member.account.turns -= 4;
+    let last = seat_work::release(rt, pool, &mut member.seat, root);
     member.account.counts.take(root);
-    let (last, left) = seat_tries::release(pool, &mut member.seat, root);
     regain(&mut member.account.moves, last);
-    (last, left)
+    last
 }
 
 /// The same in one try. None where the thread has something to put away that it could not; where
@@ -100,7 +81,10 @@ fn try_release_settled(pool: &SharedPool, member: &mut Member, root: RootId) -> 
     ensures does { Does pool.now 4 (once_less root result) None member.old member.new }
     ensures moves { member.new.account.moves ≡ moves_after result member.old.account.moves }
 {
-    let (last, left) = release_once(pool, member, root);
+    member.account.turns -= 4;
+    let (last, left) = seat_tries::release(pool, &mut member.seat, root);
+    member.account.counts.take(root);
+    regain(&mut member.account.moves, last);
     keep(&mut member.pending, Pending::Tried(left));
     last
 }

@@ -11,7 +11,7 @@ ghost use Rattle.seat_tries.specs.Leaving.{MeetsOther};
 ghost use Rattle.seat_tries.specs.Taking.{taken};
 ghost use Rattle.pool_member.specs.Pendings.{hand_of, left_of, nothing, owed, IsPending, PutsAway};
 ghost use Rattle.pool_member.specs.Returns.{given, given_with};
-ghost use Rattle.pool_member.specs.Threads.{IsSettled, IsThread, Settles, with_left};
+ghost use Rattle.pool_member.specs.Threads.{IsSettled, IsThread, Settles};
 
 use crate::member::Member;
 use crate::pending::Pending;
@@ -105,18 +105,6 @@ pub fn try_settle(pool: &SharedPool, member: &mut Member) -> bool
     let settled = is_nothing(&left);
     keep(&mut member.pending, left);
     settled
-}
-
-/// Puts away what a try left that the thread has not kept yet.
-#[inline(always)]
-pub fn settle_left<W: Wait>(rt: &W, pool: &SharedPool, member: &mut Member, left: Begun)
-    requires thread { IsThread pool.now (with_left left member.old) }
-    requires settled { IsSettled member.old }
-    ensures settles { Settles pool.now (with_left left member.old) member.new }
-    ensures settled { IsSettled member.new }
-{
-    keep(&mut member.pending, Pending::Tried(left));
-    settle(rt, pool, member);
 }
 
 /// Puts away what the thread has to.

@@ -1,34 +1,57 @@
-use Rattle.std.proofs.Common.{◌<◌, ◌≤◌, None, sym, ap, ◌∙◌, subst}
+use Rattle.std.proofs.Common.{◌-◌, ◌<◌, None, refl, sym, subst, ◌∙◌, arith}
 use Rattle.seat_work.specs.Changes.{once_less}
 use Rattle.pool_member.specs.declared.account.Account.{Account}
 use Rattle.pool_member.specs.declared.member.Member.{Member}
 use Rattle.pool_member.specs.Counting.{counted}
-use Rattle.pool_member.specs.Threads.{moves_after, with_left}
-use Rattle.pool_member.proofs.Settling.{does_settled, same_account, settled_does, still_turns}
+use Rattle.pool_member.proofs.AloneLater.{stays_later}
+use Rattle.pool_member.proofs.Keeping.{has_count, may_begin, settled_on, spends_less, tells_settled, times_one}
+use Rattle.pool_member.proofs.Letters.{later_letters}
+use Rattle.pool_member.proofs.MoveLaws.{moves_left}
+use Rattle.pool_member.proofs.Settling.{same_account, settled_does, still_turns}
 use Rattle.pool_member.proofs.work.counting.release.Goals as goal
 
-pub release_once-last-requires-clause-counts : goal.release_once-last-requires-clause-counts
-release_once-last-requires-clause-counts g c =
-    subst (λ (a : Account). 0 < counted a.counts c.args.root)
-    (sym (same_account c.args.pool.now c.args.member.now c.settle.new.member c.settle.ensures.settles))
-    c.requires.counts
-
-pub release_once-last-requires-clause-turns : goal.release_once-last-requires-clause-turns
-release_once-last-requires-clause-turns g c =
+pub overflow_sub-member : goal.overflow_sub-member
+overflow_sub-member g c =
     still_turns c.args.pool.now c.args.member.now c.settle.new.member 4 c.settle.ensures.settles c.requires.turns
+
+pub release-last-requires-clause-works : goal.release-last-requires-clause-works
+release-last-requires-clause-works g c =
+    let pool = c.args.pool.now in let mid = c.settle.new.member in let settles = c.settle.ensures.settles in
+    may_begin pool mid settles.thread 4 0 c.settle.ensures.settled
+    (still_turns pool c.args.member.now mid 4 settles c.requires.turns) (omega arith)
+
+pub release-last-requires-clause-counts : goal.release-last-requires-clause-counts
+release-last-requires-clause-counts g c =
+    let pool = c.args.pool.now in let mid = c.settle.new.member in let settles = c.settle.ensures.settles in
+    has_count pool mid settles.thread c.args.root
+    (subst (λ (a : Account). 0 < counted a.counts c.args.root) (sym (same_account pool c.args.member.now mid settles))
+    c.requires.counts)
 
 pub returns-clause-does : goal.returns-clause-does
 returns-clause-does g c =
-    let pool = c.args.pool.now in let old = c.args.member.now in let mid = c.settle.new.member in
-    let call = c.release_once-last in let done = with_left call.result.1 call.new.member in
-    let new = c.settle_left.new.member in let change = once_less c.args.root call.result.0 in
-    settled_does pool old mid new 4 change None c.settle.ensures.settles
-    (does_settled pool mid done new 4 change None call.ensures.does c.settle_left.ensures.settles)
-
-pub returns-clause-moves : goal.returns-clause-moves
-returns-clause-moves g c =
-    let pool = c.args.pool.now in let old = c.args.member.now in let mid = c.settle.new.member in
-    let call = c.release_once-last in let done = with_left call.result.1 call.new.member in
-    let new = c.settle_left.new.member in
-    ap (λ (a : Account). a.moves) (same_account pool done new c.settle_left.ensures.settles) ∙ call.ensures.moves
-    ∙ ap (λ (a : Account). moves_after call.result.0 a.moves) (same_account pool old mid c.settle.ensures.settles)
+    let pool = c.args.pool.now in let mid = c.settle.new.member in let call = c.release-last in
+    let settles = c.settle.ensures.settles in let did = call.ensures.proceeds in let is = settles.thread in
+    let last = call.result in let change = once_less c.args.root last in
+    let new : Member = record mid {
+      seat = call.new.seat;
+      account =
+          record mid.account {
+            turns = mid.account.turns - 4;
+            moves = c.regain.new.moves;
+            counts =
+                c.take.new.self;
+          };
+    } in
+    let le = still_turns pool c.args.member.now mid 4 settles c.requires.turns in
+    let none = c.settle.ensures.settled in
+    let spends = spends_less change 4 mid.account new.account refl (omega (arith, le)) c.take.ensures.places c.args.root
+    (λ other. refl) (times_one c.args.root) c.take.ensures.counts c.take.ensures.tells
+    (λ q none kept. c.take.ensures.alone q ∙ kept) in
+    settled_does pool c.args.member.now mid new 4 change None settles
+    (settled_on pool change 4 0 4 mid new is none refl did.goes did.changes spends
+    (tells_settled pool change 4 0 4 mid new is none refl did.goes did.changes spends
+    (λ root. (let a = c.take.ensures.tells root in omega (arith, a)))) (omega arith)
+    (moves_left pool mid call.new.seat is last c.regain.new.moves did.goes.moves_left call.ensures.moves
+    c.regain.ensures)
+    (later_letters pool mid.seat call.new.seat call.ensures.later) refl None
+    (stays_later pool mid.seat call.new.seat call.ensures.later) (λ q kept. sym (c.take.ensures.alone q) ∙ kept))

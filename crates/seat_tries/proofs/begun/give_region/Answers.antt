@@ -10,7 +10,7 @@ use Rattle.seat_work.proofs.Later.{later_noted}
 use Rattle.seat_work.proofs.Proceeding.{works_after}
 use Rattle.seat_tries.proofs.Goings.{goes_then, leaves_both, works_less}
 use Rattle.seat_tries.proofs.Takings.{met_taken, noted_taken}
-use Rattle.seat_tries.proofs.begun.give_apart.Goals as goal
+use Rattle.seat_tries.proofs.begun.give_region.Goals as goal
 
 pub give-requires-clause-region : goal.give-requires-clause-region
 give-requires-clause-region c =
