@@ -40,6 +40,7 @@ impl<B: PoolName> PoolThread<B> {
     /// once. A refusal leaves its counts as they were, and which of its next buffers are watched;
     /// for want of turns, and where the buffer is too large, nothing has changed. Nothing is left to
     /// put away of what calls that never wait began.
+    #[inline(always)]
     pub fn alloc<W: Wait>(
         &mut self,
         rt: &W,
@@ -71,10 +72,10 @@ impl<B: PoolName> PoolThread<B> {
         ensures told { IfErr result (λ no. IsRefused pool.now size no self.old self.new) }
     {
         let Some(class) = pool.sizes.class_of(size) else {
-            return Err(AllocNo::TooLarge);
+            return refused(AllocNo::TooLarge);
         };
         if self.member.account.turns < ALLOC_TURNS {
-            return Err(AllocNo::Spent);
+            return refused(AllocNo::Spent);
         }
         match allocate(rt, &pool.shared, &mut self.member, size, class) {
             Ok(root) => {
@@ -95,13 +96,14 @@ impl<B: PoolName> PoolThread<B> {
                     of: PhantomData,
                 })
             }
-            Err(no) => Err(alloc_no(no)),
+            Err(no) => refused(alloc_no(no)),
         }
     }
 
     /// Gives a count back. True exactly where it was the last one of all threads and parcels: the
     /// memory went back to the pool then, and nothing is left to put away. A refusal changes nothing,
     /// and hands the buffer back.
+    #[inline(always)]
     pub fn release<W: Wait>(
         &mut self,
         rt: &W,
@@ -210,6 +212,14 @@ impl<B: PoolName> PoolThread<B> {
         buffer.may(&self.member.account, 0)?;
         Ok(counting::look(&pool.shared, &mut self.member, root))
     }
+}
+
+// Seldom, so apart: a caller that gets a buffer makes nothing of an answer without one.
+#[inline(never)]
+fn refused<B: PoolName>(no: AllocNo) -> Result<Buffer<B>, AllocNo>
+    ensures { result ≡ Err no }
+{
+    Err(no)
 }
 
 // The same answer of this crate.

@@ -55,6 +55,7 @@ impl<B: PoolName> PoolThread<B> {
     }
 
     /// Lays bytes over those of a buffer, from `start` on.
+    #[inline(always)]
     pub fn set<W: Wait>(
         &mut self,
         rt: &W,
@@ -87,6 +88,7 @@ impl<B: PoolName> PoolThread<B> {
     }
 
     /// Copies bytes of a buffer out, from `start` on, as many as there is room for.
+    #[inline(always)]
     pub fn get<W: Wait>(
         &mut self,
         rt: &W,
