@@ -1,7 +1,7 @@
 -- What is kept of roots by place stays in its place.
-use Rattle.std.proofs.Common.{◌≡◌, ◌≢◌, ℕ, zero, suc, ◌+◌, ◌<◌, Bool, true, false, List, [], ◌∷◌, ◌++◌, length, Option, Some, refl, sym, ap, ◌∙◌, subst, ⊎_elim, arith}
+use Rattle.std.proofs.Common.{eq-eqb, ◌≡◌, ◌≢◌, ℕ, zero, suc, ◌+◌, ◌<◌, ◌≤◌, Bool, true, false, List, [], ◌∷◌, ◌++◌, length, Option, Some, refl, sym, ap, ◌∙◌, subst, ⊎_elim, arith}
 use Rattle.std.specs.Prelude.{◌&&◌, ◌==◌, IfSome, nat_le, nat_lt, if◌then◌else◌, max, slice_get, slice_set}
-use Rattle.std.proofs.lemmas.Bool.{cases_eq}
+use Rattle.std.proofs.lemmas.Bool.{cases_eq, false_from_ne_true, le-leb, leb-true, lt-ltb, ne_eqb, true≢false}
 use Rattle.pool_law.specs.declared.id.RootId.{RootId}
 use Rattle.pool_law.specs.Same.{same_root}
 use Rattle.pool_law.proofs.ListLemmas.{slice_get-set_same, slice_get-set_other}
@@ -69,3 +69,60 @@ module _ (cs : List Counted) (root : RootId) (end : ℕ) (c : Counted) (at : sli
   reached same =
       here_is ∙ ap (λ (b : Bool). nat_lt 0 (if b then c.count else 0)
       && nat_le end (max root.capacity (if b then c.told else 0))) same
+
+-- ---- The same, of a root that stands in its place, by one test after the other.
+
+and-none : (b : Bool) → (b && false) ≡ false
+and-none true = refl
+and-none false = refl
+
+-- a capacity that is passed leaves what was told
+beyond : (end capacity told : ℕ) → capacity < end → (b : Bool) → nat_le end told ≡ b
+    → nat_le end (max capacity told) ≡ b
+beyond end capacity told lt true e =
+    le-leb end (max capacity told) (let a = leb-le end told e in omega (arith, a, lt))
+beyond end capacity told lt false e = false_from_ne_true (nat_le end (max capacity told))
+    (λ is.
+    (let a = leb-le end (max capacity told) is in
+    let none : end ≤ told → ⊥ = λ le. absurd (true≢false (sym (le-leb end told le) ∙ e)) in
+    none (omega (arith, a, lt))))
+
+module _ (cs : List Counted) (root : RootId) (end : ℕ) (c : Counted) (at : slice_get cs root.place ≡ Some c) where
+  abbrev answer : Bool
+  answer = nat_lt 0 (counted cs root) && nat_le end (known cs root)
+
+  pub other_generation : (c.root.generation ≡ root.generation → ⊥) → answer ≡ false
+  other_generation ne = unreached cs root end c at
+      (ap (λ (b : Bool). (c.root.place == root.place) && (b && (c.root.capacity == root.capacity)))
+      (ne_eqb c.root.generation root.generation ne) ∙ and-none (c.root.place == root.place))
+
+  pub other_capacity : (c.root.capacity ≡ root.capacity → ⊥) → answer ≡ false
+  other_capacity ne = unreached cs root end c at
+      (ap (λ (b : Bool). (c.root.place == root.place) && ((c.root.generation == root.generation) && b))
+      (ne_eqb c.root.capacity root.capacity ne)
+      ∙ ap (λ (b : Bool). (c.root.place == root.place) && b) (and-none (c.root.generation == root.generation))
+      ∙ and-none (c.root.place == root.place))
+
+  module _ (stands : c.root.place ≡ root.place) (generation : c.root.generation ≡ root.generation)
+      (capacity : c.root.capacity ≡ root.capacity) where
+    same : same_root c.root root ≡ true
+    same =
+        ap (λ (b : Bool). b && ((c.root.generation == root.generation) && (c.root.capacity == root.capacity)))
+        (eq-eqb c.root.place root.place stands)
+        ∙ ap (λ (b : Bool). b && (c.root.capacity == root.capacity))
+        (eq-eqb c.root.generation root.generation generation) ∙ eq-eqb c.root.capacity root.capacity capacity
+
+    pub uncounted : c.count ≡ 0 → answer ≡ false
+    uncounted none = reached cs root end c at same
+        ∙ ap (λ (n : ℕ). nat_lt 0 n && nat_le end (max root.capacity c.told)) none
+
+    module _ (some : 0 < c.count) where
+      counts : answer ≡ nat_le end (max root.capacity c.told)
+      counts = reached cs root end c at same
+          ∙ ap (λ (b : Bool). b && nat_le end (max root.capacity c.told)) (lt-ltb 0 c.count some)
+
+      pub in_capacity : end ≤ root.capacity → answer ≡ true
+      in_capacity le = counts ∙ le-leb end (max root.capacity c.told) (omega (arith, le))
+
+      pub as_told : root.capacity < end → answer ≡ nat_le end c.told
+      as_told lt = counts ∙ beyond end root.capacity c.told lt (nat_le end c.told) refl

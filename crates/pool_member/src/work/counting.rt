@@ -11,7 +11,7 @@ ghost use Rattle.pool_member.specs.Threads.{Does, IsSettled, IsThread, moves_aft
 
 use crate::member::Member;
 use crate::pending::Pending;
-use crate::work::settling::{is_nothing, keep, settle, try_settle};
+use crate::work::settling::{keep, settle, try_settle};
 use pool_law::RootId;
 use shared_pool::SharedPool;
 use std::sync::Wait;
@@ -38,26 +38,6 @@ pub fn retain(pool: &SharedPool, member: &mut Member, root: RootId)
 /// and parcels. Nothing is left to put away.
 #[inline(always)]
 pub fn release<W: Wait>(rt: &W, pool: &SharedPool, member: &mut Member, root: RootId) -> bool
-    requires thread { IsThread pool.now member.old }
-    requires counts { 0 < counted member.old.account.counts root }
-    requires turns { 4 ≤ member.old.account.turns }
-    ensures does { Does pool.now 4 (once_less root result) None member.old member.new }
-    ensures settled { IsSettled member.new }
-    ensures moves { member.new.account.moves ≡ moves_after result member.old.account.moves }
-{
-    if !is_nothing(&member.pending) {
-        return release_apart(rt, pool, member, root);
-    }
-    member.account.turns -= 4;
-    let last = seat_work::release(rt, pool, &mut member.seat, root);
-    member.account.counts.take(root);
-    regain(&mut member.account.moves, last);
-    last
-}
-
-// The same where something may be to be put away: seldom, so apart.
-#[inline(never)]
-fn release_apart<W: Wait>(rt: &W, pool: &SharedPool, member: &mut Member, root: RootId) -> bool
     requires thread { IsThread pool.now member.old }
     requires counts { 0 < counted member.old.account.counts root }
     requires turns { 4 ≤ member.old.account.turns }
