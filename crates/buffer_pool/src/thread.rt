@@ -1,11 +1,8 @@
 //! The threads of a pool.
 
 ghost use Rattle.std.specs.Prelude.{◌≡◌};
-ghost use Rattle.pool_member.specs.Refusals.{is_here};
 
-use crate::buffer::Buffer;
 use crate::name::PoolName;
-use crate::pool::Pool;
 use pool_member::Member;
 use std::marker::{Model, PhantomData};
 
@@ -46,18 +43,6 @@ impl<B: PoolName> PoolThread<B> {
         ensures { result ≡ self.now.account.lane }
     {
         self.member.account.lane
-    }
-
-    // Whether a buffer is the thread's, as `Buffer::is_here` tells it. That its root is at one of the
-    // pool's places is known, and not tested.
-    #[inline(always)]
-    pub(crate) fn has(&self, pool: &Pool<B>, buffer: &Buffer<B>) -> bool
-        ensures { result ≡ is_here self.now.account buffer.now }
-    {
-        let _shared = &pool.shared;
-        let account = &self.member.account;
-        let end = buffer.view.at.offset + buffer.view.at.len;
-        account.lane == buffer.thread && account.counts.reaches_at(buffer.root(), end)
     }
 
     /// How many turns and moves it has left, at least.

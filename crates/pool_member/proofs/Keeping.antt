@@ -27,11 +27,8 @@ use Rattle.pool_member.specs.declared.pending.Pending.{Pending}
 use Rattle.pool_member.specs.Alone.{KeepsAlone}
 use Rattle.pool_member.specs.Counting.{counted, is_alone, known, told}
 use Rattle.pool_member.specs.Pendings.{hand_of, nothing, owed, IsPending}
-use Rattle.pool_member.specs.Refusals.{is_here}
 use Rattle.pool_member.specs.Threads.{Does, HasChanged, IsSettled, IsThread, KeepsOwn}
-use Rattle.pool_member.specs.Windows.{HasPlace, Window}
 use Rattle.pool_member.proofs.Alone.{keeps, Stays}
-use Rattle.pool_member.proofs.CountLaws.{counted_within}
 use Rattle.pool_member.proofs.Letters.{KeepsLetters}
 use Rattle.pool_member.proofs.Pendings.{pending_stays}
 
@@ -337,10 +334,3 @@ module _ (pool : SharedPool) (m : Member) (is : IsThread pool m) where
   -- it can be counted once more
   pub few_of : (root : RootId) → counted m.account.counts root < 2 ^ 64 - 1
   few_of root = let a = is.few root in omega (arith, a)
-
--- the root of a buffer that a thread has is at one of the pool's places
-pub here_placed : (pool : SharedPool) (m : Member) (w : Window) → IsThread pool m → is_here m.account w ≡ true
-    → HasPlace pool w.at.root
-here_placed pool m w is here =
-    let lt : 0 < counted m.account.counts w.at.root = grind (arith, here) in
-    let a = counted_within m.account.counts w.at.root lt in let b = is.places in omega (arith, a, b)

@@ -83,17 +83,9 @@ impl OwnCounts {
         ensures { result
             ≡ (nat_lt 0 (counted self.now root) && nat_le end (known self.now root)) }
     {
-        (root.place as usize) < self.by_place.len() && self.reaches_at(root, end)
-    }
-
-    /// The same of a root whose place is known to be one of these.
-    #[inline(always)]
-    pub fn reaches_at(&self, root: RootId, end: u32) -> bool
-        requires place { root.place < length self.now }
-        ensures { result
-            ≡ (nat_lt 0 (counted self.now root) && nat_le end (known self.now root)) }
-    {
-        let at_place = &self.by_place[root.place as usize];
+        let Some(at_place) = self.by_place.get(root.place as usize) else {
+            return false;
+        };
         // What is kept there is of that place. One test after the other, as each mostly is met.
         if at_place.root.generation != root.generation {
             return false;

@@ -120,12 +120,7 @@ impl<B: PoolName> PoolThread<B> {
         ensures back { IfErr result (λ back. (back.buffer ≡ buffer) × (self.new ≡ self.old)) }
     {
         let root = buffer.root();
-        if !self.has(pool, &buffer) {
-            let why = AccessNo::NotHere;
-            return Err(Back { why, buffer });
-        }
-        if self.member.account.turns < RELEASE_TURNS {
-            let why = AccessNo::Spent;
+        if let Err(why) = buffer.may(&self.member.account, RELEASE_TURNS) {
             return Err(Back { why, buffer });
         }
         buffer.leave();
