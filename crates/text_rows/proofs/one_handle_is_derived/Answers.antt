@@ -1,0 +1,17 @@
+-- The run is legal, stands in the order of its turns, and is typed.
+use Rattle.std.proofs.Common.{arith}
+use Rattle.std.proofs.lemmas.List.Elements.{All-get_or}
+use Rattle.definition_rows.specs.RootRuns.{one_handle}
+use Rattle.definition_rows.specs.OrderedRuns.{IsOrdered, alone, one_lane}
+use Rattle.text_rows.proofs.Typing.{typed}
+use Rattle.text_rows.proofs.one_handle_is_derived.Goals as goal
+
+pub returns : goal.returns
+returns c =
+    let row : IsOrdered (alone one_handle) =
+    All-get_or IsOrdered one_lane 3 (alone one_handle) (omega arith) c.one_lane_in_order.ensures.stand in
+    record {
+      derived =
+          c.legal_runs_are_determined.ensures.derived one_handle c.one_handle_run.ensures.legal row.0
+          (typed one_handle (search (arith)) (search (arith)) (search (arith)) (search (arith)) (search (arith)));
+    }
