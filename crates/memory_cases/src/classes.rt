@@ -117,10 +117,13 @@ const CLASSES: [(u32, u32); 4] = [(0, 0), (4096, 27), (4097, 28), (28673, 39)];
 // The classes of a chunk of 4 MiB: how many are small, the pages of the last small one's subpage and of
 // the first normal one, and the last class, beyond which there is none.
 fn last_small(rt: &impl Abort, classes: &SizeClasses, small: u32) {
-    assert!(rt; classes.count() == 68 && classes.small_count() == small);
-    assert!(rt; 0 < small && small < 68 && classes.is_small(small - 1) && !classes.is_small(small));
+    assert!(rt; classes.count() == 68);
+    assert!(rt; 0 < small && small < 68);
+    assert!(rt; classes.is_small(small - 1));
+    assert!(rt; !classes.is_small(small));
     assert!(rt;
-        classes.subpage_pages(small - 1) == 7
+        classes.small_count() == small
+            && classes.subpage_pages(small - 1) == 7
             && classes.pages_of(small) == 4
             && classes.size_of(67) == 4194304
             && classes.class_of(4194304) == Some(67)

@@ -19,12 +19,10 @@ fn the_left_bytes_then_zeros(rt: HostRuntime) {
     );
     left.bytes_mut()[8191] = 9;
     let whole = left.join(right);
-    assert!(rt; whole.start() == 0 && whole.len() == 65536);
-    assert!(rt;
-        are_zeros(&whole.bytes()[..8191])
-            && whole.bytes()[8191] == 9
-            && are_zeros(&whole.bytes()[8192..])
-    );
+    assert!(rt; whole.start() == 0);
+    assert!(rt; whole.len() == 65536);
+    let bytes = whole.bytes();
+    assert!(rt; are_zeros(&bytes[..8191]) && bytes[8191] == 9 && are_zeros(&bytes[8192..]));
     whole.close(deed);
 }
 

@@ -1,5 +1,5 @@
 -- Lemmas for the tests: the two seats of a new table, and what a first note of a bin may be.
-use Rattle.std.proofs.Common.{◌≡◌, ℕ, zero, suc, ◌<◌, get_or, List, [], ◌∷◌, ◌++◌, length, sym, ◌∙◌, subst, refl, arith}
+use Rattle.std.proofs.Common.{◌≡◌, ℕ, zero, suc, ◌<◌, get_or, List, [], ◌∷◌, ◌++◌, length, sym, subst, refl, arith}
 use Rattle.std.specs.Prelude.{All, slice_get, Option, Some, None, IsTrue, is_some}
 use Rattle.pool_law.specs.declared.run.Shape.{Shape}
 use Rattle.pool_law.specs.declared.note.Noted.{Noted}

@@ -1,4 +1,4 @@
-use Rattle.std.proofs.Common.{rules, ◌≡◌, ◌∷◌, ◌++◌, [], List, length, sym, ap, ◌∙◌, subst, arith}
+use Rattle.std.proofs.Common.{◌≡◌, ◌∷◌, ◌++◌, [], List, length, sym, ap, ◌∙◌, subst, arith}
 use Rattle.step_law.specs.Settings.{Setting}
 use Rattle.std.specs.Prelude.{Option, Some, None, IfSome}
 use Rattle.pool_law.specs.declared.note.Noted.{Noted}
