@@ -13,6 +13,4 @@ mod measures;
 #[cfg(test)]
 mod rounds;
 #[cfg(test)]
-mod spends;
-#[cfg(test)]
 mod tries;
