@@ -1,5 +1,5 @@
 -- What is kept of roots by place stays in its place.
-use Rattle.std.proofs.Common.{eq-eqb, ◌≡◌, ◌≢◌, ℕ, zero, suc, ◌+◌, ◌<◌, ◌≤◌, Bool, true, false, List, [], ◌∷◌, ◌++◌, length, Option, Some, refl, sym, ap, ◌∙◌, subst, ⊎_elim, arith}
+use Rattle.std.proofs.Common.{eq-eqb, ◌≡◌, ◌≢◌, ℕ, zero, suc, ◌+◌, ◌<◌, ◌≤◌, Bool, true, false, List, [], ◌∷◌, ◌++◌, length, Option, None, Some, refl, sym, ap, ◌∙◌, subst, ⊎_elim, arith}
 use Rattle.std.specs.Prelude.{◌&&◌, ◌==◌, IfSome, nat_le, nat_lt, if◌then◌else◌, max, slice_get, slice_set}
 use Rattle.std.proofs.lemmas.Bool.{cases_eq, false_from_ne_true, le-leb, leb-true, lt-ltb, ne_eqb, true≢false}
 use Rattle.pool_law.specs.declared.id.RootId.{RootId}
@@ -70,6 +70,12 @@ module _ (cs : List Counted) (root : RootId) (end : ℕ) (c : Counted) (at : sli
       here_is ∙ ap (λ (b : Bool). nat_lt 0 (if b then c.count else 0)
       && nat_le end (max root.capacity (if b then c.told else 0))) same
 
+-- what is at no place is not counted
+pub unplaced : (cs : List Counted) (root : RootId) (end : ℕ) → slice_get cs root.place ≡ None
+    → (nat_lt 0 (counted cs root) && nat_le end (known cs root)) ≡ false
+unplaced cs root end at = ap (λ (o : Option Counted).
+    nat_lt 0 (if_counted o root) && nat_le end (max root.capacity (if_told o root))) at
+
 -- ---- The same, of a root that stands in its place, by one test after the other.
 
 and-none : (b : Bool) → (b && false) ≡ false
@@ -80,10 +86,10 @@ and-none false = refl
 beyond : (end capacity told : ℕ) → capacity < end → (b : Bool) → nat_le end told ≡ b
     → nat_le end (max capacity told) ≡ b
 beyond end capacity told lt true e =
-    le-leb end (max capacity told) (let a = leb-le end told e in omega (arith, a, lt))
+    le-leb end (max capacity told) (let a = leb-true end told e in omega (arith, a, lt))
 beyond end capacity told lt false e = false_from_ne_true (nat_le end (max capacity told))
     (λ is.
-    (let a = leb-le end (max capacity told) is in
+    (let a = leb-true end (max capacity told) is in
     let none : end ≤ told → ⊥ = λ le. absurd (true≢false (sym (le-leb end told le) ∙ e)) in
     none (omega (arith, a, lt))))
 

@@ -72,10 +72,10 @@ impl<B: PoolName> PoolThread<B> {
         ensures told { IfErr result (λ no. IsRefused pool.now size no self.old self.new) }
     {
         let Some(class) = pool.sizes.class_of(size) else {
-            return refused(AllocNo::TooLarge);
+            return Err(AllocNo::TooLarge);
         };
         if self.member.account.turns < ALLOC_TURNS {
-            return refused(AllocNo::Spent);
+            return Err(AllocNo::Spent);
         }
         match allocate(rt, &pool.shared, &mut self.member, size, class) {
             Ok(root) => {
@@ -96,7 +96,7 @@ impl<B: PoolName> PoolThread<B> {
                     of: PhantomData,
                 })
             }
-            Err(no) => refused(alloc_no(no)),
+            Err(no) => Err(alloc_no(no)),
         }
     }
 
@@ -207,14 +207,6 @@ impl<B: PoolName> PoolThread<B> {
         buffer.may(&self.member.account, 0)?;
         Ok(counting::look(&pool.shared, &mut self.member, root))
     }
-}
-
-// Seldom, so apart: a caller that gets a buffer makes nothing of an answer without one.
-#[inline(never)]
-fn refused<B: PoolName>(no: AllocNo) -> Result<Buffer<B>, AllocNo>
-    ensures { result ≡ Err no }
-{
-    Err(no)
 }
 
 // The same answer of this crate.
