@@ -1,10 +1,12 @@
 //! Which calls on a buffer its thread lets in.
 
-ghost use Rattle.std.specs.Prelude.{◌≡◌, ◌≤◌, true, MatchResult, OnOk, None, Some};
+ghost use Rattle.std.specs.Prelude.{◌≡◌, ◌≤◌, nat_le, true, MatchResult, OnOk, None, Some};
+ghost use Rattle.pool_member.specs.Counting.{told};
 ghost use Rattle.pool_member.specs.Refusals.{call_no, is_here, IsHere, part_no};
 
 use crate::buffer::Buffer;
 use crate::name::PoolName;
+use pool_law::RootId;
 use pool_member::{AccessNo, Account};
 
 impl<B: PoolName> Buffer<B> {
@@ -14,8 +16,12 @@ impl<B: PoolName> Buffer<B> {
     pub(crate) fn is_here(&self, account: &Account) -> bool
         ensures { result ≡ is_here account.now self.now }
     {
+        let root = self.view.at.root;
         let end = self.view.at.offset + self.view.at.len;
-        account.lane == self.thread && account.counts.reaches(self.root(), end)
+        let (count, _told) = account.counts.of(root);
+        account.lane == self.thread
+            && count > 0
+            && (end <= root.capacity || is_told(account, root, end))
     }
 
     /// Whether a call on it may take so many turns.
@@ -57,4 +63,22 @@ impl<B: PoolName> Buffer<B> {
         }
         Ok(())
     }
+}
+
+// Whether the thread was told of so much capacity of a root. That is asked of grown buffers alone,
+// so the copy of the root that goes to the call is made here.
+#[inline(always)]
+fn is_told(account: &Account, root: RootId, end: u32) -> bool
+    ensures { result ≡ nat_le end (told account.now.counts root) }
+{
+    is_told_apart(account, root, end)
+}
+
+// The same: seldom, so apart.
+#[inline(never)]
+fn is_told_apart(account: &Account, root: RootId, end: u32) -> bool
+    ensures { result ≡ nat_le end (told account.now.counts root) }
+{
+    let (_count, told) = account.counts.of(root);
+    end <= told
 }
