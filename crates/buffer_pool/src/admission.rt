@@ -1,12 +1,10 @@
 //! Which calls on a buffer its thread lets in.
 
-ghost use Rattle.std.specs.Prelude.{◌≡◌, ◌≤◌, nat_le, true, MatchResult, OnOk, None, Some};
-ghost use Rattle.pool_member.specs.Counting.{told};
+ghost use Rattle.std.specs.Prelude.{◌≡◌, ◌≤◌, true, MatchResult, OnOk, None, Some};
 ghost use Rattle.pool_member.specs.Refusals.{call_no, is_here, IsHere, part_no};
 
 use crate::buffer::Buffer;
 use crate::name::PoolName;
-use pool_law::RootId;
 use pool_member::{AccessNo, Account};
 
 impl<B: PoolName> Buffer<B> {
@@ -18,10 +16,7 @@ impl<B: PoolName> Buffer<B> {
     {
         let root = self.view.at.root;
         let end = self.view.at.offset + self.view.at.len;
-        let (count, _told) = account.counts.of(root);
-        account.lane == self.thread
-            && count > 0
-            && (end <= root.capacity || is_told(account, root, end))
+        account.lane == self.thread && account.counts.reaches(root, end)
     }
 
     /// Whether a call on it may take so many turns.
@@ -63,22 +58,4 @@ impl<B: PoolName> Buffer<B> {
         }
         Ok(())
     }
-}
-
-// Whether the thread was told of so much capacity of a root. That is asked of grown buffers alone,
-// so the copy of the root that goes to the call is made here.
-#[inline(always)]
-fn is_told(account: &Account, root: RootId, end: u32) -> bool
-    ensures { result ≡ nat_le end (told account.now.counts root) }
-{
-    is_told_apart(account, root, end)
-}
-
-// The same: seldom, so apart.
-#[inline(never)]
-fn is_told_apart(account: &Account, root: RootId, end: u32) -> bool
-    ensures { result ≡ nat_le end (told account.now.counts root) }
-{
-    let (_count, told) = account.counts.of(root);
-    end <= told
 }
