@@ -14,8 +14,9 @@ impl<B: PoolName> Buffer<B> {
     pub(crate) fn is_here(&self, account: &Account) -> bool
         ensures { result ≡ is_here account.now self.now }
     {
+        let root = self.view.at.root;
         let end = self.view.at.offset + self.view.at.len;
-        account.lane == self.thread && account.counts.reaches(self.root(), end)
+        account.lane == self.thread && account.counts.reaches(root, end)
     }
 
     /// Whether a call on it may take so many turns.

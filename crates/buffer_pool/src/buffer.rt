@@ -4,7 +4,6 @@ ghost use Rattle.std.specs.Prelude.{◌≡◌, ◌+◌};
 
 use crate::name::PoolName;
 use byte_view::View;
-use pool_law::RootId;
 use std::marker::{Model, PhantomData};
 
 /// A window on bytes of the pool, with a reader and a writer in it. It is one thread's, and stands
@@ -25,19 +24,6 @@ impl<B: PoolName> Model for Buffer<B> {
 }
 
 impl<B: PoolName> Buffer<B> {
-    // Its root, by its parts, so that they stay in registers.
-    #[inline(always)]
-    pub(crate) fn root(&self) -> RootId
-        ensures { result ≡ self.now.at.root }
-    {
-        let at = &self.view.at.root;
-        RootId {
-            place: at.place,
-            generation: at.generation,
-            capacity: at.capacity,
-        }
-    }
-
     /// How many bytes it has.
     pub fn len(&self) -> u32
         ensures { result ≡ self.now.at.len }

@@ -40,7 +40,6 @@ impl<B: PoolName> PoolThread<B> {
     /// once. A refusal leaves its counts as they were, and which of its next buffers are watched;
     /// for want of turns, and where the buffer is too large, nothing has changed. Nothing is left to
     /// put away of what calls that never wait began.
-    #[inline(always)]
     pub fn alloc<W: Wait>(
         &mut self,
         rt: &W,
@@ -72,14 +71,14 @@ impl<B: PoolName> PoolThread<B> {
         ensures told { IfErr result (λ no. IsRefused pool.now size no self.old self.new) }
     {
         let Some(class) = pool.sizes.class_of(size) else {
-            return refused(AllocNo::TooLarge);
+            return Err(AllocNo::TooLarge);
         };
         if self.member.account.turns < ALLOC_TURNS {
-            return refused(AllocNo::Spent);
+            return Err(AllocNo::Spent);
         }
         match allocate(rt, &pool.shared, &mut self.member, size, class) {
             Ok(root) => {
-                // LLVM keeps a root in registers only where it is made anew here.
+                // By its parts, so that it stays in registers.
                 let RootId {
                     place,
                     generation,
@@ -96,14 +95,13 @@ impl<B: PoolName> PoolThread<B> {
                     of: PhantomData,
                 })
             }
-            Err(no) => refused(alloc_no(no)),
+            Err(no) => Err(alloc_no(no)),
         }
     }
 
     /// Gives a count back. True exactly where it was the last one of all threads and parcels: the
     /// memory went back to the pool then, and nothing is left to put away. A refusal changes nothing,
     /// and hands the buffer back.
-    #[inline(always)]
     pub fn release<W: Wait>(
         &mut self,
         rt: &W,
@@ -119,7 +117,7 @@ impl<B: PoolName> PoolThread<B> {
         ensures settled { OnOk result (IsSettled self.new) }
         ensures back { IfErr result (λ back. (back.buffer ≡ buffer) × (self.new ≡ self.old)) }
     {
-        let root = buffer.root();
+        let root = buffer.view.at.root;
         if let Err(why) = buffer.may(&self.member.account, RELEASE_TURNS) {
             return Err(Back { why, buffer });
         }
@@ -203,18 +201,10 @@ impl<B: PoolName> PoolThread<B> {
         ensures account { self.new.account ≡ self.old.account }
         ensures unchanged { OnErr result (self.new ≡ self.old) }
     {
-        let root = buffer.root();
+        let root = buffer.view.at.root;
         buffer.may(&self.member.account, 0)?;
         Ok(counting::look(&pool.shared, &mut self.member, root))
     }
-}
-
-// Seldom, so apart: a caller that gets a buffer makes nothing of an answer without one.
-#[inline(never)]
-fn refused<B: PoolName>(no: AllocNo) -> Result<Buffer<B>, AllocNo>
-    ensures { result ≡ Err no }
-{
-    Err(no)
 }
 
 // The same answer of this crate.

@@ -46,7 +46,6 @@ impl<B: PoolName> PoolThread<B> {
     }
 
     /// Lays bytes over those of a buffer, from `start` on.
-    #[inline(always)]
     pub fn set<W: Wait>(
         &mut self,
         rt: &W,
@@ -70,7 +69,7 @@ impl<B: PoolName> PoolThread<B> {
         ensures unchanged { OnErr result (self.new ≡ self.old) }
     {
         let offset = self.may_access(buffer, start, bytes.len())?;
-        let root = buffer.root();
+        let root = buffer.view.at.root;
         let member = &mut self.member;
         if !access::try_set(&pool.shared, member, root, offset, bytes) {
             access::wait_to_set(rt, &pool.shared, member, root, offset, bytes);
@@ -79,7 +78,6 @@ impl<B: PoolName> PoolThread<B> {
     }
 
     /// Copies bytes of a buffer out, from `start` on, as many as there is room for.
-    #[inline(always)]
     pub fn get<W: Wait>(
         &mut self,
         rt: &W,
@@ -103,7 +101,7 @@ impl<B: PoolName> PoolThread<B> {
         ensures unchanged { OnErr result ((self.new ≡ self.old) × (out.new ≡ out.old)) }
     {
         let offset = self.may_access(buffer, start, out.len())?;
-        let root = buffer.root();
+        let root = buffer.view.at.root;
         let member = &mut self.member;
         if !access::try_get(&pool.shared, member, root, offset, out) {
             access::wait_to_get(rt, &pool.shared, member, root, offset, out);
@@ -203,7 +201,7 @@ impl<B: PoolName> PoolThread<B> {
         ensures unchanged { OnErr result (self.new ≡ self.old) }
     {
         let offset = self.may_access(buffer, start, len as usize)?;
-        let root = buffer.root();
+        let root = buffer.view.at.root;
         Ok(access::with_bytes(rt, &pool.shared, &mut self.member, root, offset, len, f))
     }
 
@@ -224,7 +222,7 @@ impl<B: PoolName> PoolThread<B> {
             (access b.at.root Did.Touch)) }
         ensures unchanged { OnErr result (self.new ≡ self.old) }
     {
-        let root = buffer.root();
+        let root = buffer.view.at.root;
         buffer.may(&self.member.account, 1)?;
         access::touch(rt, &pool.shared, &mut self.member, root);
         Ok(())

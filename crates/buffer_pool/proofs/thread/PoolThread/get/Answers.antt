@@ -13,7 +13,7 @@ use Rattle.buffer_pool.proofs.thread.PoolThread.get.Goals.{then-not-try_get, els
 pub returns-clause-changed : goal.returns-clause-changed
 returns-clause-changed g c =
     let pool = c.pool.inside.shared in let old : Member = c.self.inside.member in let mid = c.try_get.new.member in
-    let root = c.root.result in let last : Member = c.if-not-try_get.self-inside.member in
+    let root = c.buffer.inside.view.at.root in let last : Member = c.if-not-try_get.self-inside.member in
     let Tried : Bool → Type 0 = λ (b : Bool). MatchBool b
     (HasAccessed pool root (Did.Get c.in_ok-offset.offset c.try_get.new.out) None old mid
     × AreLaid old root c.in_ok-offset.offset c.try_get.new.out)
