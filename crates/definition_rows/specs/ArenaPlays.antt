@@ -66,8 +66,8 @@ first_of_all [] = None
 first_of_all (x ∷ xs) = x
 
 -- what was taken last
-abbrev pub last_taken : Played → Option (ℕ × ℕ)
-last_taken p = first_of_all (places_taken p)
+abbrev pub latest_taken : Played → Option (ℕ × ℕ)
+latest_taken p = first_of_all (places_taken p)
 
 -- the list, the used and the free bytes of a chunk
 abbrev pub state_of : ℕ → Played → ℕ → Option ListName × ℕ × ℕ

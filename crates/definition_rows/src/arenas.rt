@@ -4,7 +4,7 @@ ghost use Rattle.std.specs.Prelude.{◌≡◌, [], ◌∷◌, ◌++◌, Some, No
 ghost use Rattle.pool_law.specs.declared.report.ListName.TheVariants.{QInit, Q000, Q025, Q050, Q075, Q100};
 ghost use Rattle.pool_law.specs.declared.note.Did.TheVariants.{Take, Full, Give};
 ghost use Rattle.definition_rows.specs.Notes.{place, region, least_region};
-ghost use Rattle.definition_rows.specs.ArenaPlays.{Want, Return, played, places_taken, last_taken, state_of, wants, returns, notes_of_one_chunk};
+ghost use Rattle.definition_rows.specs.ArenaPlays.{Want, Return, played, places_taken, latest_taken, state_of, wants, returns, notes_of_one_chunk};
 
 /// One small taking that comes back: the idle subpage stays.
 pub fn smallest()
@@ -32,7 +32,7 @@ pub fn whole_chunk()
 pub fn merging()
     ensures three { places_taken (played 4 1 (wants 3 40960))
         ≡ Some (0, 81920) ∷ Some (0, 40960) ∷ Some (0, 0) ∷ [] }
-    ensures both { last_taken
+    ensures both { latest_taken
         (played 4 1 (wants 3 40960 ++ (Return 1 ∷ Return 2 ∷ Want 81920 ∷ [])))
         ≡ Some (0, 0) }
     ensures end { state_of 4
@@ -49,7 +49,7 @@ pub fn full()
         ≡ (Some Q050, 32768, 32768) }
     ensures unused_place { places_taken (played 3 2 (wants 3 65536))
         ≡ None ∷ Some (1, 0) ∷ Some (0, 0) ∷ [] }
-    ensures place_of_a_destroyed_chunk { last_taken
+    ensures place_of_a_destroyed_chunk { latest_taken
         (played 3 2 (wants 2 65536 ++ (Return 1 ∷ Want 65536 ∷ [])))
         ≡ Some (0, 0) }
 {}
@@ -76,26 +76,26 @@ pub fn through_all_lists()
 /// In each play two chunks have room for the last request.
 pub fn lists_in_order()
     // chunk 0 has half its pages free, and chunk 1, the newer of the two, has three
-    ensures from_the_head { last_taken (played 3 2 (Want 32768 ∷ Want 40960 ∷ Want 24576 ∷ []))
+    ensures from_the_head { latest_taken (played 3 2 (Want 32768 ∷ Want 40960 ∷ Want 24576 ∷ []))
         ≡ Some (1, 40960) }
     // chunk 0 is half full and was full before; chunk 1 has five free pages, and is a list below
-    ensures half_before_quarter { last_taken
+    ensures half_before_quarter { latest_taken
         (played 3 2 (wants 3 32768 ++ (Want 24576 ∷ Return 3 ∷ Return 1 ∷ Want 8192 ∷ [])))
         ≡ Some (0, 0) }
     // three pages of chunk 0 are in use, after seven were; two of chunk 1
-    ensures quarter_before_least { last_taken
+    ensures quarter_before_least { latest_taken
         (played 3 2 (Want 32768 ∷ Want 24576 ∷ Want 16384 ∷ Return 1 ∷ Want 8192 ∷ []))
         ≡ Some (0, 57344) }
     // three pages of chunk 0 are in use; one of chunk 1, after fifteen were
-    ensures least_before_first { last_taken
+    ensures least_before_first { latest_taken
         (played 4 2 (Want 24576 ∷ Want 114688 ∷ Want 8192 ∷ Return 2 ∷ Want 8192 ∷ []))
         ≡ Some (1, 122880) }
     // chunk 0 has a quarter free and was full before; chunk 1 has one page in use
-    ensures first_before_three_quarters { last_taken
+    ensures first_before_three_quarters { latest_taken
         (played 4 2 (Want 98304 ∷ Want 32768 ∷ Want 8192 ∷ Return 2 ∷ Want 32768 ∷ []))
         ≡ Some (1, 8192) }
     // the last list that is asked
-    ensures three_quarters { last_taken
+    ensures three_quarters { latest_taken
         (played 4 1 (Want 98304 ∷ Want 32768 ∷ Return 2 ∷ Want 32768 ∷ []))
         ≡ Some (0, 98304) }
 {}
@@ -104,7 +104,7 @@ pub fn lists_in_order()
 pub fn many_elements()
     ensures end { state_of 9 (played 9 4 (wants 257 16 ++ (Return 257 ∷ Want 16 ∷ []))) 0
         ≡ (Some QInit, 8192, 4186112) }
-    ensures again { last_taken (played 9 4 (wants 257 16 ++ (Return 257 ∷ Want 16 ∷ [])))
+    ensures again { latest_taken (played 9 4 (wants 257 16 ++ (Return 257 ∷ Want 16 ∷ [])))
         ≡ Some (0, 4096) }
 {}
 
@@ -120,9 +120,9 @@ pub fn two_classes()
 pub fn front_subpages()
     ensures second { places_taken (played 3 1 (wants 3 4096))
         ≡ Some (0, 8192) ∷ Some (0, 4096) ∷ Some (0, 0) ∷ [] }
-    ensures front { last_taken (played 3 1 (wants 3 4096 ++ (Return 1 ∷ Want 4096 ∷ [])))
+    ensures front { latest_taken (played 3 1 (wants 3 4096 ++ (Return 1 ∷ Want 4096 ∷ [])))
         ≡ Some (0, 0) }
-    ensures then_the_other { last_taken (played 3 1 (wants 3 4096 ++ (Return 1 ∷ wants 2 4096)))
+    ensures then_the_other { latest_taken (played 3 1 (wants 3 4096 ++ (Return 1 ∷ wants 2 4096)))
         ≡ Some (0, 12288) }
 {}
 
