@@ -28,7 +28,6 @@ pub fn retain(pool: &SharedPool, seat: &mut PoolSeat, root: RootId)
 /// The seat counts the root once less. True exactly where that was the last count of all seats and
 /// parcels: the root ended then, its region went into its owner's cache or back to its arena, and
 /// the handle of its place came home. Else the seat gets one move more.
-#[inline(always)]
 pub fn release<W: Wait>(rt: &W, pool: &SharedPool, seat: &mut PoolSeat, root: RootId) -> bool
     requires works { Works pool.now empty_hand 4 0 seat.old }
     requires counts { HasCount root (view_of seat.old) }

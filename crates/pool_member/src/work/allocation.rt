@@ -15,7 +15,7 @@ ghost use Rattle.pool_member.specs.Watching.{watch_next, with_next};
 
 use crate::member::Member;
 use crate::pending::Pending;
-use crate::work::settling::{is_nothing, keep, settle, try_settle};
+use crate::work::settling::{keep, settle, try_settle};
 use pool_law::RootId;
 use seat_work::AllocNo;
 use shared_pool::SharedPool;
@@ -24,52 +24,7 @@ use std::sync::Wait;
 /// A new root of `size` bytes, all 0, which the thread then counts once. `class` is that of the
 /// size. It is watched where the thread's next birth is sampled, and only a root that is born is
 /// counted for that. Nothing is left to put away.
-#[inline(always)]
 pub fn allocate<W: Wait>(
-    rt: &W,
-    pool: &SharedPool,
-    member: &mut Member,
-    size: u32,
-    class: u32,
-) -> Result<RootId, AllocNo>
-    requires thread { IsThread pool.now member.old }
-    requires turns { 6 ≤ member.old.account.turns }
-    requires class { class_of (geometry_of pool.now.table.layout.shape) size ≡ Some class }
-    ensures root { IfOk result (λ root. root.capacity ≡ size) }
-    ensures counts { IfOk result (λ root. 0 < counted member.new.account.counts root) }
-    ensures does { Does pool.now 6 (allocated result) None member.old member.new }
-    ensures moves { member.new.account.moves ≡ member.old.account.moves }
-    ensures watcher { MatchResult result
-        (λ _. member.new.watcher ≡ with_next member.old.watcher)
-        (λ _. member.new.watcher ≡ member.old.watcher) }
-    ensures settled { IsSettled member.new }
-    ensures born { IfOk result (λ root. HasBorn pool.now root member.old.seat member.new.seat) }
-    ensures cause { IfErr result (λ no.
-        HasCause pool.now member.old member.new (as_alloc no)) }
-    ensures notes { MatchResult result
-        (λ root. IsAllotted pool.now size root member.old member.new)
-        (λ no. IsRefused pool.now size (as_alloc no) member.old member.new) }
-{
-    if !is_nothing(&member.pending) {
-        return allocate_apart(rt, pool, member, size, class);
-    }
-    if !member.watcher.is_quiet() {
-        return allocate_apart(rt, pool, member, size, class);
-    }
-    member.account.turns -= 6;
-    match seat_work::allocate(rt, pool, &mut member.seat, size, class, None) {
-        Ok(root) => {
-            member.account.counts.add(root);
-            member.watcher.count_quiet();
-            Ok(root)
-        }
-        Err(no) => Err(no),
-    }
-}
-
-// The same where something is to be put away, or the root may be watched: seldom, so apart.
-#[inline(never)]
-fn allocate_apart<W: Wait>(
     rt: &W,
     pool: &SharedPool,
     member: &mut Member,

@@ -36,7 +36,6 @@ pub fn retain(pool: &SharedPool, member: &mut Member, root: RootId)
 
 /// The thread counts the root once less. True exactly where that was the last count of all threads
 /// and parcels. Nothing is left to put away.
-#[inline(always)]
 pub fn release<W: Wait>(rt: &W, pool: &SharedPool, member: &mut Member, root: RootId) -> bool
     requires thread { IsThread pool.now member.old }
     requires counts { 0 < counted member.old.account.counts root }
