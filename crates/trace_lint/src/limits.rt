@@ -62,16 +62,27 @@ fn command_past(lanes: Lanes<'_>) -> (usize, usize) {
 
 /// The lane and the line of the first command with which the bytes pass their limit.
 fn byte_past(lanes: Lanes<'_>) -> (usize, usize) {
-    let mut total = 0u64;
+    let mut left = BYTE_LIMIT;
     for (lane, value) in lanes.values().iter().enumerate() {
-        for (line, row) in items_of(value).iter().enumerate() {
-            total = total.saturating_add(bytes_asked(row));
-            if total > BYTE_LIMIT {
-                return (lane, line);
-            }
+        match left_behind(items_of(value), left) {
+            Ok(bytes) => left = bytes,
+            Err(line) => return (lane, line),
         }
     }
     (0, 0)
+}
+
+/// What these rows leave of so many bytes, or the line of the first that asks for more.
+fn left_behind(rows: &[Value], most: u64) -> Result<u64, usize> {
+    let mut left = most;
+    for (line, row) in rows.iter().enumerate() {
+        let asked = bytes_asked(row);
+        if asked > left {
+            return Err(line);
+        }
+        left -= asked;
+    }
+    Ok(left)
 }
 
 /// The bytes that a row asks to see: its last item, where it is a `get`, a `tryget` or a `read`.
