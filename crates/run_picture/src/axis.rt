@@ -12,15 +12,23 @@ const LABELS: u64 = 20;
 // So many digits a number of 64 bits has at most.
 const DIGITS: u32 = 20;
 
+// The first of 1, 2 and 5 times a power that leaves at most so many labels, if one does.
+fn step_from(power: u64, count: u64, most: u64) -> Option<u64> {
+    for times in [1, 2, 5] {
+        let step = power.saturating_mul(times);
+        if step != 0 && count / step <= most {
+            return Some(step);
+        }
+    }
+    None
+}
+
 /// A step between labels that leaves at most so many: 1, 2 or 5 times a power of 10.
 pub fn step_of(count: u64, most: u64) -> u64 {
     let mut power: u64 = 1;
     for _digit in 0..DIGITS {
-        for times in [1, 2, 5] {
-            let step = power.saturating_mul(times);
-            if step != 0 && count / step <= most {
-                return step;
-            }
+        if let Some(step) = step_from(power, count, most) {
+            return step;
         }
         power = power.saturating_mul(10);
     }

@@ -71,8 +71,8 @@ fn sample(pen: &mut Pen, style: Style, x: u32, y: u32, words: &str) -> Result<u3
     )
 }
 
-/// What the colours mean.
-pub fn legend(pen: &mut Pen, roots: bool) -> Result<(), AllocError> {
+// What the colours of the chunks mean.
+fn chunk_legend(pen: &mut Pen) -> Result<(), AllocError> {
     let mut x = 200;
     let chunks = [
         (Style::Rooted, "taken, a root lives on it"),
@@ -84,6 +84,11 @@ pub fn legend(pen: &mut Pen, roots: bool) -> Result<(), AllocError> {
     for (style, words) in chunks {
         x = sample(pen, style, x, 660, words)?;
     }
+    Ok(())
+}
+
+// What the colours of the lanes mean; where their samples end.
+fn lane_legend(pen: &mut Pen) -> Result<u32, AllocError> {
     let mut x = 200;
     let lanes = [
         (Style::Allocates, "alloc"),
@@ -98,8 +103,15 @@ pub fn legend(pen: &mut Pen, roots: bool) -> Result<(), AllocError> {
     for (style, words) in lanes {
         x = sample(pen, style, x, 840, words)?;
     }
+    Ok(x)
+}
+
+/// What the colours mean.
+pub fn legend(pen: &mut Pen, roots: bool) -> Result<(), AllocError> {
+    chunk_legend(pen)?;
+    let x = lane_legend(pen)?;
     if roots {
-        x = sample(pen, Style::Writes, x, 840, "bytes set")?;
+        let x = sample(pen, Style::Writes, x, 840, "bytes set")?;
         let _end = sample(pen, Style::Reads, x, 840, "bytes got")?;
     }
     Ok(())

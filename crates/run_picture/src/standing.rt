@@ -38,6 +38,28 @@ pub struct Ground {
     pub stopped: Option<u64>,
 }
 
+impl Ground {
+    // These stays last until then.
+    fn end_stays(&mut self, stays: &[Stay], last: u64) -> Result<(), AllocError> {
+        for stay in stays {
+            let mut stay = *stay;
+            stay.until = last;
+            self.stays.push(stay)?;
+        }
+        Ok(())
+    }
+
+    // These subpages last until then.
+    fn end_subpages(&mut self, subpages: &[Subpage], last: u64) -> Result<(), AllocError> {
+        for subpage in subpages {
+            let mut subpage = *subpage;
+            subpage.until = last;
+            self.subpages.push(subpage)?;
+        }
+        Ok(())
+    }
+}
+
 // The ground of an arena as its notes are gone through.
 #[derive(Drop)]
 struct Digging {
@@ -157,16 +179,8 @@ impl Digging {
             stays,
             subpages,
         } = self;
-        for stay in &stays {
-            let mut stay = *stay;
-            stay.until = last;
-            ground.stays.push(stay)?;
-        }
-        for subpage in &subpages {
-            let mut subpage = *subpage;
-            subpage.until = last;
-            ground.subpages.push(subpage)?;
-        }
+        ground.end_stays(&stays, last)?;
+        ground.end_subpages(&subpages, last)?;
         Ok(ground)
     }
 }

@@ -40,8 +40,8 @@ fn style_of(phase: Phase) -> Style {
     }
 }
 
-/// The chunks of an arena: when they are in which list, and their subpages.
-pub fn chunks(pen: &mut Pen, chart: &Chart, ground: &Ground, page: u32) -> Result<(), AllocError> {
+// When the chunks of an arena are in which list.
+fn stays(pen: &mut Pen, chart: &Chart, ground: &Ground) -> Result<(), AllocError> {
     for stay in &ground.stays {
         let (upper, lower) = chart.edges_of(stay.chunk);
         let area = area_of(chart, stay.from, stay.until, upper, lower);
@@ -50,6 +50,11 @@ pub fn chunks(pen: &mut Pen, chart: &Chart, ground: &Ground, page: u32) -> Resul
         title.words(list_word(stay.list))?;
         pen.rect(Style::Open, area, title)?;
     }
+    Ok(())
+}
+
+// The subpages of an arena's chunks.
+fn subpages(pen: &mut Pen, chart: &Chart, ground: &Ground, page: u32) -> Result<(), AllocError> {
     for subpage in &ground.subpages {
         let size = u64::from(page);
         let first = u64::from(subpage.page).saturating_mul(size);
@@ -63,6 +68,12 @@ pub fn chunks(pen: &mut Pen, chart: &Chart, ground: &Ground, page: u32) -> Resul
         pen.rect(Style::Subpage, area, title)?;
     }
     Ok(())
+}
+
+/// The chunks of an arena: when they are in which list, and their subpages.
+pub fn chunks(pen: &mut Pen, chart: &Chart, ground: &Ground, page: u32) -> Result<(), AllocError> {
+    stays(pen, chart, ground)?;
+    subpages(pen, chart, ground, page)
 }
 
 /// The lists in which a chunk is, each by its name at the beginning of its stay.

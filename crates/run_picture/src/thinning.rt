@@ -20,17 +20,23 @@ fn least_of(mut lengths: Vec<u64>, limit: usize) -> Result<u64, AllocError> {
     Ok(lengths.get(at).copied().unwrap_or(0).saturating_add(1))
 }
 
+// For how many moments each taking of an arena was out that came back, behind these.
+fn add_lengths(lengths: &mut Vec<u64>, plot: &Plot) -> Result<(), AllocError> {
+    for block in &plot.blocks {
+        if let Some(back) = block.back {
+            let from = plot.chart.moment_of(block.number);
+            lengths.push(plot.chart.moment_of(back.number).saturating_sub(from))?;
+        }
+    }
+    Ok(())
+}
+
 /// For how many moments a taking that came back must have been out, that at most `BLOCK_LIMIT` are drawn
 /// beside those that are out at the end.
 pub fn least_for_blocks(alloc: Global, plots: &[Plot]) -> Result<u64, AllocError> {
     let mut lengths = Vec::new(alloc);
     for plot in plots {
-        for block in &plot.blocks {
-            if let Some(back) = block.back {
-                let from = plot.chart.moment_of(block.number);
-                lengths.push(plot.chart.moment_of(back.number).saturating_sub(from))?;
-            }
-        }
+        add_lengths(&mut lengths, plot)?;
     }
     least_of(lengths, BLOCK_LIMIT)
 }

@@ -130,6 +130,42 @@ impl Uses {
             Note::Ref { .. } | Note::Busy(_) => Ok(()),
         }
     }
+
+    // Goes through the notes of the lanes in this order.
+    fn pass_all(
+        &mut self,
+        alloc: Global,
+        logs: &[LaneLog],
+        order: &Order,
+    ) -> Result<(), AllocError> {
+        let mut next: Vec<usize> = vec![in alloc; 0; logs.len()]?;
+        for step in &order.steps {
+            let lane = step.lane as usize;
+            if lane < next.len() && lane < logs.len() {
+                let at = next[lane];
+                next[lane] = at.saturating_add(1);
+                if let Some(note) = logs[lane].notes.items().get(at) {
+                    self.pass_note(note, step.moment)?;
+                }
+            }
+        }
+        Ok(())
+    }
+
+    // What is used for something at the end is so until then.
+    fn finish(self, last: u64) -> Result<Vec<Span>, AllocError> {
+        let Uses {
+            open,
+            living: _,
+            mut spans,
+        } = self;
+        for span in open.values() {
+            let mut span = *span;
+            span.until = last;
+            spans.push(span)?;
+        }
+        Ok(spans)
+    }
 }
 
 /// What the takings are used for, as these notes tell it in this order.
@@ -139,26 +175,6 @@ pub fn spans_of(alloc: Global, logs: &[LaneLog], order: &Order) -> Result<Vec<Sp
         living: BTreeMap::new(alloc),
         spans: Vec::new(alloc),
     };
-    let mut next: Vec<usize> = vec![in alloc; 0; logs.len()]?;
-    for step in &order.steps {
-        let lane = step.lane as usize;
-        if lane < next.len() && lane < logs.len() {
-            let at = next[lane];
-            next[lane] = at.saturating_add(1);
-            if let Some(note) = logs[lane].notes.items().get(at) {
-                uses.pass_note(note, step.moment)?;
-            }
-        }
-    }
-    let Uses {
-        open,
-        mut spans,
-        ..
-    } = uses;
-    for span in open.values() {
-        let mut last = *span;
-        last.until = order.moments;
-        spans.push(last)?;
-    }
-    Ok(spans)
+    uses.pass_all(alloc, logs, order)?;
+    uses.finish(order.moments)
 }
