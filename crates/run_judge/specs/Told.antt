@@ -40,9 +40,9 @@ root_place root = codes "root" ∷ dotted root.place root.generation ∷ []
 abbrev pub line_place : ℕ → Text → List Text
 line_place at kind = codes "after" ∷ decimal at ∷ kind ∷ codes "lines" ∷ []
 
--- what is told of a place
-abbrev pub told_at : List Text → Text → Text
-told_at place what = spaced place ++ (codes ": " ++ what)
+-- a place, before what is told of it
+abbrev pub told_at : List Text → Text
+told_at place = spaced place ++ codes ": "
 
 -- a line for a note
 abbrev pub spot_line : Spot → Text
@@ -53,10 +53,10 @@ abbrev pub last_line : Option Spot → Text
 last_line None = []
 last_line (Some spot) = spot_line spot
 
--- what is told of the notes at an object up to a number
-abbrev pub at_number : Object → ℕ → Text → Text
-at_number object number what =
-    spaced (object_words object) ++ (codes " number " ++ (decimal number ++ (codes ": " ++ what)))
+-- the notes at an object up to a number, before what is told of them
+abbrev pub number_place : Object → ℕ → Text
+number_place object number =
+    spaced (object_words object) ++ (codes " number " ++ (decimal number ++ codes ": "))
 
 -- how a numbered history is none that can be, and how the notes at an object are
 abbrev pub numbered_text : Text
@@ -71,36 +71,43 @@ history_text (Cache lane class) = numbered_text
 history_text (Bin lane) = numbered_text
 history_text (Root place) = numbered_text
 
+-- where it is first that the law isn't kept, if it is at one place
+abbrev pub place_text : Breach → Text
+place_text Measures = []
+place_text Lanes = []
+place_text Commands = []
+place_text (History object number) = number_place object number
+place_text (Notes spot) = told_at (note_place spot.lane spot.at)
+place_text (Marks spot) = told_at (note_place spot.lane spot.at)
+place_text (Chunks at) = told_at (line_place at (codes "chunk"))
+place_text (Answers lane command) = told_at (dotted lane command ∷ [])
+place_text (Uses spot) = told_at (note_place spot.lane spot.at)
+place_text (Totals root) = told_at (root_place root)
+place_text (Unborn spot) = told_at (note_place spot.lane spot.at)
+place_text (Looks spot) = told_at (note_place spot.lane spot.at)
+place_text (Leaks at) = told_at (line_place at (codes "leak"))
+
+-- how it isn't kept
+abbrev pub reason_text : Breach → Text
+reason_text Measures = codes "the measures are past the limits of a pool"
+reason_text Lanes = codes "there are not commands and a log for each lane"
+reason_text Commands = codes "the commands of some lane are none that a lane may be given"
+reason_text (History object number) = history_text object
+reason_text (Notes spot) = codes "the lane may not make this note"
+reason_text (Marks spot) = codes "with this note the busy notes of the lane cannot be right"
+reason_text (Chunks at) = codes "the next is not what the arenas have at the end"
+reason_text (Answers lane command) =
+    codes "from here on the replies and notes are not those of the commands and the closing"
+reason_text (Uses spot) =
+    codes "this note uses a root that the lane does not count, or ends one that it still counts"
+reason_text (Totals root) = codes "its counts over all lanes do not add up"
+reason_text (Unborn spot) = codes "this note names a root that was never born"
+reason_text (Looks spot) = codes "this note looks up a count that the root cannot have"
+reason_text (Leaks at) = codes "the next is not that of the next sampled root that is live"
+
 -- the part of the law that isn't kept, and where first
 abbrev pub breach_text : Breach → Text
-breach_text Measures = codes "the measures are past the limits of a pool"
-breach_text Lanes = codes "there are not commands and a log for each lane"
-breach_text Commands = codes "the commands of some lane are none that a lane may be given"
-breach_text (History object number) = at_number object number (history_text object)
-breach_text (Notes spot) =
-    told_at (note_place spot.lane spot.at) (codes "the lane may not make this note")
-breach_text (Marks spot) =
-    told_at (note_place spot.lane spot.at)
-    (codes "with this note the busy notes of the lane cannot be right")
-breach_text (Chunks at) =
-    told_at (line_place at (codes "chunk"))
-    (codes "the next is not what the arenas have at the end")
-breach_text (Answers lane command) =
-    told_at (dotted lane command ∷ [])
-    (codes "from here on the replies and notes are not those of the commands and the closing")
-breach_text (Uses spot) =
-    told_at (note_place spot.lane spot.at)
-    (codes "this note uses a root that the lane does not count, or ends one that it still counts")
-breach_text (Totals root) =
-    told_at (root_place root) (codes "its counts over all lanes do not add up")
-breach_text (Unborn spot) =
-    told_at (note_place spot.lane spot.at) (codes "this note names a root that was never born")
-breach_text (Looks spot) =
-    told_at (note_place spot.lane spot.at)
-    (codes "this note looks up a count that the root cannot have")
-breach_text (Leaks at) =
-    told_at (line_place at (codes "leak"))
-    (codes "the next is not that of the next sampled root that is live")
+breach_text breach = place_text breach ++ reason_text breach
 
 -- what is said of a run
 abbrev pub text_for : Played → Text
