@@ -8,7 +8,7 @@ ghost use Rattle.pool_law.specs.declared.note.Did.{Did};
 ghost use Rattle.pool_law.specs.declared.note.Note.{Note};
 ghost use Rattle.run_text.specs.Told.{did_told, note_told, view_told};
 ghost use Rattle.run_text.specs.Lines.{AreTold, IsDidTold, IsTold, IsViewTold, Line, begun, last_born, place_of};
-ghost use Rattle.run_text.specs.Knowing.{IsAt, line_told, of_region};
+ghost use Rattle.run_text.specs.Knowing.{IsAt, Knows, line_told, of_region};
 
 mod hands;
 mod named;
@@ -59,6 +59,18 @@ fn begun(note: &Note) -> Option<RegionId>
     }
 }
 
+// What all lines tell of takings; of births and uses nothing is known yet.
+fn takings_told(alloc: Global, told: &[(u32, Note)]) -> Result<Known, AllocError>
+    ensures { (arenas : ℕ) (lines : List Line) → told.now ≡ map line_told lines
+        → AreTold arenas lines [] lines → IfOk result (λ known. Knows known lines []) }
+{
+    let mut known = Known::new(alloc)?;
+    for line in told {
+        known.learn_taking(line.0, &line.1)?;
+    }
+    Ok(known)
+}
+
 impl Filler {
     /// What all lines tell of roots and regions; of the notes themselves none was passed yet.
     pub fn told_by(alloc: Global, arenas: u32, told: &[(u32, Note)]) -> Result<Filler, AllocError>
@@ -66,10 +78,7 @@ impl Filler {
             → AreTold arenas lines [] lines
             → 0 < arenas → IfOk result (IsAt arenas lines []) }
     {
-        let mut known = Known::new(alloc)?;
-        for line in told {
-            known.learn_taking(line.0, &line.1)?;
-        }
+        let mut known = takings_told(alloc, told)?;
         for line in told {
             known.learn_use(&line.1)?;
         }

@@ -6,9 +6,4 @@ use Rattle.run_text.proofs.filling.Filler.told_by.Given as goal
 abbrev pub invariant-loop-line : goal.invariant-loop-line
 invariant-loop-line l =
     (lines : List Line) → l.told ≡ map line_told lines → AreTold l.arenas lines [] lines
-    → Knows l.known (take l.line-index lines) []
-
-abbrev pub invariant-loop-line-2 : goal.invariant-loop-line-2
-invariant-loop-line-2 l =
-    (lines : List Line) → l.told ≡ map line_told lines → AreTold l.arenas lines [] lines
     → Knows l.known lines (take l.line-index lines)
