@@ -1,7 +1,7 @@
 //! The lines of notes.
 
-ghost use Rattle.std.specs.Prelude.{◌≡◌, ◌++◌, ◌∷◌, OnOk, codes, decimal};
-ghost use Rattle.pool_law.specs.Text.{all_notes, did_words, line, note_lines, note_words, object_words, parcel_words, ref_words, region_words};
+ghost use Rattle.std.specs.Prelude.{◌≡◌, ◌++◌, ◌∷◌, [], OnOk, codes, decimal};
+ghost use Rattle.pool_law.specs.Text.{all_notes, did_words, line, note_lines, note_words, object_words, parcel_words, ref_words, region_words, shown_bytes};
 ghost use Rattle.pool_law.specs.declared.note.Did.{Did};
 ghost use Rattle.run_report.specs.Words.{after_spaces};
 
@@ -31,7 +31,7 @@ impl Writer {
     }
 
     // Chunk and offset of a region, and its taking's number.
-    fn spot(&mut self, region: &RegionId) -> Result<(), AllocError>
+    fn region(&mut self, region: &RegionId) -> Result<(), AllocError>
         ensures { OnOk result (self.new ≡ self.old ++ after_spaces (region_words region.now)) }
     {
         self.plus(region.place.chunk, region.place.offset)?;
@@ -65,6 +65,36 @@ impl Writer {
         self.number(u64::from(root.capacity))
     }
 
+    // The words of a growth.
+    fn growth(&mut self, capacity: u32, region: &RegionId) -> Result<(), AllocError>
+        ensures { OnOk result
+            (self.new ≡ self.old ++ after_spaces (did_words (Did.Grow capacity region.now))) }
+    {
+        self.word("grow")?;
+        self.place(&region.place)?;
+        self.number(region.taking)?;
+        self.number(region.uses)?;
+        self.number(u64::from(capacity))
+    }
+
+    // A word, and the words of a parcel.
+    fn handed(&mut self, word: &str, view: &Option<ViewData>) -> Result<(), AllocError>
+        ensures { OnOk result
+            (self.new ≡ self.old ++ after_spaces (word.now ∷ parcel_words view.now)) }
+    {
+        self.word(word)?;
+        self.parcel(view)
+    }
+
+    // A word, and the bytes from an offset on.
+    fn bytes_at(&mut self, word: &str, offset: u32, bytes: &[u8]) -> Result<(), AllocError>
+        ensures { OnOk result (self.new
+            ≡ self.old ++ after_spaces (word.now ∷ decimal offset ∷ shown_bytes bytes.now ∷ [])) }
+    {
+        self.named(word, u64::from(offset))?;
+        self.shown(bytes)
+    }
+
     // The words of what was done to an object.
     fn did(&mut self, did: &Did) -> Result<(), AllocError>
         ensures { OnOk result (self.new ≡ self.old ++ after_spaces (did_words did.now)) }
@@ -72,12 +102,12 @@ impl Writer {
         match did {
             Did::Take { class, region } => {
                 self.named("take", u64::from(*class))?;
-                self.spot(region)
+                self.region(region)
             }
             Did::Full { class } => self.named("full", u64::from(*class)),
             Did::Give(region) => {
                 self.word("give")?;
-                self.spot(region)
+                self.region(region)
             }
             Did::Hit(region) => self.named("hit", region.taking),
             Did::Miss => self.word("miss"),
@@ -92,36 +122,18 @@ impl Writer {
             Did::Handle(place) => self.named("handle", u64::from(*place)),
             Did::NoHandle => self.word("none"),
             Did::Home(place) => self.named("home", u64::from(*place)),
-            Did::Post(parcel) => {
-                self.word("post")?;
-                self.parcel(&parcel.view)
-            }
-            Did::Fetch(parcel) => {
-                self.word("fetch")?;
-                self.parcel(&parcel.view)
-            }
+            Did::Post(parcel) => self.handed("post", &parcel.view),
+            Did::Fetch(parcel) => self.handed("fetch", &parcel.view),
             Did::Birth { root, region } => self.birth(root, region),
-            Did::Set { offset, bytes } => {
-                self.named("set", u64::from(*offset))?;
-                self.shown(bytes.items())
-            }
-            Did::Get { offset, bytes } => {
-                self.named("get", u64::from(*offset))?;
-                self.shown(bytes.items())
-            }
+            Did::Set { offset, bytes } => self.bytes_at("set", *offset, bytes.items()),
+            Did::Get { offset, bytes } => self.bytes_at("get", *offset, bytes.items()),
             Did::Touch => self.word("touch"),
             Did::Room { asked, capacity } => {
                 self.named("room", u64::from(*asked))?;
                 self.number(u64::from(*capacity))
             }
             Did::Extend(size) => self.named("extend", u64::from(*size)),
-            Did::Grow { capacity, region } => {
-                self.word("grow")?;
-                self.place(&region.place)?;
-                self.number(region.taking)?;
-                self.number(region.uses)?;
-                self.number(u64::from(*capacity))
-            }
+            Did::Grow { capacity, region } => self.growth(*capacity, region),
             Did::End(root) => self.named("end", u64::from(root.generation)),
         }
     }
