@@ -10,6 +10,7 @@ mod lane;
 mod limits;
 mod names;
 mod options;
+mod pairs;
 mod reading;
 mod stuck;
 mod words;

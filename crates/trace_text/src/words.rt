@@ -5,11 +5,10 @@ ghost use Rattle.serde_json.specs.View.{view};
 ghost use Rattle.trace_text.specs.Words.{command_in, form_of, text_of, word_of};
 ghost use Rattle.trace_text.specs.Steps.{IsRead};
 
-use crate::forms::{
-    compose, get, name_and_lane, name_and_number, one_name, set, slice, two_names, write,
-};
+use crate::forms::{compose, get, one_name, set, slice, write};
 use crate::items::{RowNo, array_of};
 use crate::names::Names;
+use crate::pairs;
 use pool_law::Command;
 use serde_json::Value;
 use std::alloc::Global;
@@ -120,25 +119,16 @@ fn form(
     ensures grown { OnOk result (length names.new ≤ length names.old + 25) }
 {
     match word {
-        Word::Alloc => {
-            let (name, size) = name_and_number(alloc, names, items)?;
-            Ok(Command::Alloc { name, size })
-        }
+        Word::Alloc => pairs::alloc(alloc, names, items),
         Word::Set => set(alloc, false, names, items),
         Word::TrySet => set(alloc, true, names, items),
         Word::Get => get(alloc, false, names, items),
         Word::TryGet => get(alloc, true, names, items),
         Word::Write => write(alloc, names, items),
-        Word::Read => {
-            let (name, len) = name_and_number(alloc, names, items)?;
-            Ok(Command::Read { name, len })
-        }
+        Word::Read => pairs::read(alloc, names, items),
         Word::Slice => slice(alloc, false, names, items),
         Word::RetainedSlice => slice(alloc, true, names, items),
-        Word::Dup => {
-            let (fresh, name) = two_names(alloc, names, items)?;
-            Ok(Command::Dup { fresh, name })
-        }
+        Word::Dup => pairs::dup(alloc, names, items),
         Word::Retain => {
             let name = one_name(alloc, names, items)?;
             Ok(Command::Retain { name })
@@ -159,23 +149,11 @@ fn form(
             let name = one_name(alloc, names, items)?;
             Ok(Command::Forget { name })
         }
-        Word::Send => {
-            let (name, lane) = name_and_lane(alloc, lanes, names, items)?;
-            Ok(Command::Send { name, lane })
-        }
-        Word::Recv => {
-            let (fresh, lane) = name_and_lane(alloc, lanes, names, items)?;
-            Ok(Command::Recv { fresh, lane })
-        }
+        Word::Send => pairs::send(alloc, lanes, names, items),
+        Word::Recv => pairs::recv(alloc, lanes, names, items),
         Word::Compose => compose(alloc, names, items),
-        Word::Add => {
-            let (whole, name) = two_names(alloc, names, items)?;
-            Ok(Command::Add { whole, name })
-        }
-        Word::Capacity => {
-            let (name, size) = name_and_number(alloc, names, items)?;
-            Ok(Command::Capacity { name, size })
-        }
+        Word::Add => pairs::add(alloc, names, items),
+        Word::Capacity => pairs::capacity(alloc, names, items),
     }
 }
 
