@@ -27,7 +27,6 @@ mod told;
 
 pub use arena::Arena;
 pub use cache::Cache;
-pub use lists::same_list;
 pub use objects::{accepts, arena_after, capacity_after};
 pub use place::RootPlace;
 pub use same::same_bytes;

@@ -136,8 +136,8 @@ fn drop_from(chunks: &mut Vec<u32>, chunk: u32)
 }
 
 /// Whether two names are one list.
-pub fn same_list(a: ListName, b: ListName) -> bool
+pub(crate) fn same_list(a: ListName, b: ListName) -> bool
     ensures { result ≡ same_list a b }
 {
-    a as u8 == b as u8
+    a == b
 }

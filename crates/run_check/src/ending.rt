@@ -9,7 +9,7 @@ ghost use Rattle.run_check.specs.Placing.{DifferAt};
 ghost use Rattle.run_check.specs.Storing.{AreHistories};
 
 use crate::histories::{Histories, dids_of};
-use object_steps::{Sizes, arena_after, same_list};
+use object_steps::{Sizes, arena_after};
 use pool_law::{ChunkEnd, Object, Shape};
 use std::alloc::{AllocError, Global};
 
@@ -57,11 +57,7 @@ pub fn ends_of(
 fn same_end(a: &ChunkEnd, b: &ChunkEnd) -> bool
     ensures { IsTrue result ↔ (a.now ≡ b.now) }
 {
-    a.arena == b.arena
-        && a.chunk == b.chunk
-        && same_list(a.list, b.list)
-        && a.used == b.used
-        && a.free == b.free
+    a == b
 }
 
 /// The first place where two lists of chunks differ, if there is one.
