@@ -41,7 +41,7 @@ pub(crate) fn done_at<'a>(object: &Object, note: &'a Note) -> Option<&'a Did>
             object: other,
             number: _,
             did,
-        } => { if object == other { Some(did) } else { None } }
+        } => (object == other).then_some(did),
         _ => None,
     }
 }
@@ -51,7 +51,7 @@ fn done_to(root: &RootId, note: &Note) -> Option<RefDid>
     ensures { result ≡ done_to root.now note.now }
 {
     match note {
-        Note::Ref { root: other, did } => { if root == other { Some(*did) } else { None } }
+        Note::Ref { root: other, did } => (root == other).then_some(*did),
         _ => None,
     }
 }
@@ -61,13 +61,7 @@ fn marked(object: &Object, note: &Note) -> Option<u64>
     ensures { result ≡ marked object.now note.now }
 {
     match note {
-        Note::Busy(held) => {
-            if *object == held.object {
-                Some(held.number)
-            } else {
-                None
-            }
-        }
+        Note::Busy(held) => (*object == held.object).then_some(held.number),
         _ => None,
     }
 }
