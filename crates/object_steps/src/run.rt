@@ -85,7 +85,7 @@ impl Run {
                 Purpose::Sub {
                     class: own,
                     elements,
-                } => { if class == *own { Some(elements) } else { None } }
+                } => (class == *own).then_some(elements),
             },
         }
     }
