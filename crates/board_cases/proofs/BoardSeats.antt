@@ -1,7 +1,6 @@
 -- The seats of a board from call to call.
 use Rattle.std.proofs.Common.{◌≡◌, ℕ, ◌+◌, ◌-◌, ◌<◌, ◌≤◌, List, sym, ap, ◌∙◌, subst, arith}
-use Rattle.std.specs.Prelude.{Option, IfSome, Result, Ok, Err, IfOk, IfErr, ◌⊎◌}
-use Rattle.std.proofs.Common.{inl, inr}
+use Rattle.std.specs.Prelude.{Option, Result, Ok, Err, IfOk, IfErr, ◌⊎◌}
 use Rattle.atomic_table.specs.Table.{Me}
 use Rattle.shared_pool.specs.declared.pool.SharedPool.{SharedPool}
 use Rattle.board_table.specs.declared.views.BoardView.{BoardView}
@@ -182,8 +181,3 @@ module _ (board : Board) (s n : BoardSeat) (can : Can board 0 1 s) where
 pub home_core : (board : Board) (pool : SharedPool) (k : ℕ) (core : Core) → IsPoolOf board pool → IsAtHome board k core
     → IsUnderway pool core
 home_core board pool k core is at = underway pool core (of_pool (origin_of board) pool k core is at)
-
--- what two may have, one has
-pub either : (P : Core → Type 0) (r a b : Option Core) → (r ≡ a) ⊎ (r ≡ b) → IfSome a P → IfSome b P → IfSome r P
-either P r a b (inl e) x y = subst (λ (o : Option Core). IfSome o P) (sym e) x
-either P r a b (inr e) x y = subst (λ (o : Option Core). IfSome o P) (sym e) y

@@ -23,14 +23,5 @@ module _ (board : Board) where
     turns_left = (let x = can.turns_left in omega (arith, x, lf));
   }
 
-  pub stays_on : (a b d e m t : ℕ) (old mid new : BoardSeat) → Stays board a b old mid → Stays board d e mid new
-      → a + d ≤ m → b + e ≤ t → Stays board m t old new
-  stays_on a b d e m t old mid new x y le lf = record {
-    own = y.own;
-    counts = y.counts;
-    moves_left = (let p = x.moves_left in let q = y.moves_left in omega (arith, p, q, le));
-    turns_left = (let p = x.turns_left in let q = y.turns_left in omega (arith, p, q, lf));
-  }
-
   pub goes_from : (old mid new : BoardSeat) → used mid ≡ used old → Goes board mid new → Goes board old new
   goes_from old mid new same goes = record { own = goes.own; used_up = goes.used_up ∙ same }

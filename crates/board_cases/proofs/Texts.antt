@@ -1,11 +1,10 @@
 -- The cores of the tests, and the boards of these.
-use Rattle.std.proofs.Common.{◌≡◌, ℕ, zero, suc, ◌+◌, ◌*◌, ◌<◌, ◌≤◌, List, [], ◌∷◌, ◌++◌, length, replicate, get_or, refl, sym, ap, ◌∙◌, subst, arith}
-use Rattle.std.specs.Prelude.{All, HoldsAt, IfSome, None, Some, Option, filter_map, slice_get, sum_by}
+use Rattle.std.proofs.Common.{◌≡◌, ℕ, zero, suc, ◌+◌, ◌*◌, ◌<◌, ◌≤◌, List, [], ◌∷◌, ◌++◌, length, get_or, refl, sym, ap, ◌∙◌, subst, arith}
+use Rattle.std.specs.Prelude.{All, HoldsAt, IfSome, None, Some, Option, filter_map, slice_get}
 use Rattle.std.proofs.lemmas.Option.{get_or_from_slice_get}
 use mathlib.Core.Logic.{dite}
 use native.Mathlib.Decide.{ℕ_discrete}
 use Rattle.std.proofs.lemmas.List.Elements.{All-nil, All-cons, All-head, All-tail}
-use Rattle.std.proofs.lemmas.List.Folds.{sum_by-replicate}
 use Rattle.std.proofs.lemmas.List.Sums.{sum_by-cons}
 use Rattle.pool_law.specs.declared.id.Part.{Part}
 use Rattle.pool_law.specs.declared.id.RootId.{RootId}
@@ -23,8 +22,7 @@ use Rattle.seat_work.specs.Hands.{empty_hand}
 use Rattle.seat_work.specs.Works.{Works}
 use Rattle.seat_work.proofs.FirstSeats.{has_nothing, IsHeld-empty}
 use Rattle.board_table.specs.declared.views.BoardView.{BoardView}
-use Rattle.board_table.specs.declared.views.Stake.{Stake}
-use Rattle.board_table.specs.Views.{first_view, more, no_stake, stake_of, spent}
+use Rattle.board_table.specs.Views.{first_view, more, stake_of}
 use Rattle.shared_composite.specs.declared.board.Board.{Board}
 use Rattle.shared_composite.specs.declared.board.BoardSeat.{BoardSeat}
 use Rattle.shared_composite.specs.declared.cores.Core.{Core}
@@ -32,7 +30,6 @@ use Rattle.shared_composite.specs.Boards as boards
 use Rattle.shared_composite.specs.Boards.{AreLeft, HasView, IsMadeOf, IsPoolOf, IsSeatOf, parts_in}
 use Rattle.seat_work.proofs.Knowing.{knows_born}
 use Rattle.shared_composite.specs.Cores.{CountsJust, IsCore, IsEmptied, IsFit, IsKnown, IsUnderway}
-use Rattle.board_cases.specs.Seats.{used}
 use Rattle.board_cases.specs.Texts.{IsText, Shows, part, text_in}
 use Rattle.board_cases.proofs.BoardSeats.{home_core, knows}
 
@@ -126,13 +123,6 @@ module _ (board : Board) (seat : BoardSeat) (n moves turns : ℕ) (some : 0 < n)
     (has : HasView seat (first_view n moves turns)) where
   first : boards.view_of seat ≡ first_view n moves turns
   first = knows seat (first_view n moves turns) has
-
-  pub first_used : used seat ≡ turns
-  first_used =
-      let none = sum_by-replicate (λ (x : Stake). x.sections) n (more no_stake) in
-      let e = ap (λ (v : BoardView). spent v) first in
-      let p : ℕ = sum_by (λ (x : Stake). x.sections) (replicate n (more no_stake)) in let none' : p ≡ n * 0 = none in
-      let u : ℕ = used seat in let e' : u ≡ p + turns = e in let goal : u ≡ turns = omega (arith, none', e') in goal
 
 -- ---- The close.
 

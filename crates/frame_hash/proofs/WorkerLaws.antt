@@ -22,7 +22,7 @@ use Rattle.frame_hash.specs.declared.turns.TheConstants.{HASH_TURNS}
 use Rattle.frame_hash.specs.declared.worker.Hashing.{Hashing}
 use Rattle.frame_hash.specs.declared.worker.Work.TheVariants.{Frame}
 use Rattle.frame_hash.specs.declared.worker.Worker.{Worker}
-use Rattle.frame_hash.specs.Standing.{AreTold, IsBegun, IsHashing, IsOver, WorkerStands, at_work}
+use Rattle.frame_hash.specs.Standing.{AreTold, IsBegun, IsHashing, WorkerStands, at_work}
 use Rattle.frame_hash.specs.Takes.{HasSpent, HasTaken}
 use Rattle.frame_hash.specs.Told.{all_told, joined, slices_in, told_of}
 use Rattle.frame_hash.proofs.TakeLaws.{has_taken, number_new, read_goes}
@@ -47,9 +47,6 @@ module _ (js got : List Job) (pieces : List (List ℕ)) (hashes : List HashOf)
     len = begun.len;
     fits = (let a = begun.left in let b = begun.few in let d = begun.len in omega (arith, a, b, d));
   }
-
-  pub ends_with : got ≡ js ++ jobs.End ∷ [] → IsOver got pieces hashes
-  ends_with e = record { done = js; jobs_are = e; told = told }
 
 -- ---- A frame goes on, and ends.
 

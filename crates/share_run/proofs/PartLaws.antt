@@ -33,7 +33,6 @@ use Rattle.shared_composite.proofs.KnownParts.{known_on}
 use Rattle.seat_work.proofs.FirstSeats.{has_nothing}
 use Rattle.seat_work.proofs.Proceeding.{changes_then}
 use Rattle.seat_work.proofs.Later.{quiet_note_posts}
-use Rattle.composite_buf.specs.Maps.{Fits}
 use Rattle.shared_composite.specs.Cores.{IsKnown, roots_of}
 use Rattle.share_text.specs.Inputs.{byte_limit}
 use Rattle.share_run.specs.Standing.{posted, HasPlaced, IsFilling, IsFilled, IsFresh}
@@ -178,9 +177,6 @@ module _ (pool : SharedPool) (lane : ℕ) (inputs : List (List ℕ)) where
   }
 
 -- ---- What a composite asks of its parts.
-
-pub all_fit : (parts : List Part) → All (λ p. p.offset + p.len ≤ byte_limit) parts → All Fits parts
-all_fit parts short k d lt = let a = short k d lt in omega (arith, a)
 
 pub size_least : (parts : List Part) → All (λ p. p.offset + p.len ≤ byte_limit) parts
     → size_of parts ≤ byte_limit * length parts
