@@ -69,9 +69,6 @@ module _ (pool : SharedPool) (left : Left) (old : Context) (d : IsContext pool e
   pub room_to_note : length old.notes.items < vec_capacity old.notes
   room_to_note = let a = noted_length in let b = room.notes in omega (arith, a, b, some)
 
-  pub few_notes : length old.notes.items < 4294967295
-  few_notes = let a = noted_length in let b = room.few in omega (arith, a, b, some)
-
   pub turn_left : 0 < (view_of old.seat).turns
   turn_left = let a = room.turns in omega (arith, a, some)
 

@@ -19,7 +19,7 @@ use Rattle.lane_stages.specs.declared.stepped.Stepped.{Stepped}
 use Rattle.lane_stages.specs.Drainings as draining
 use Rattle.seat_work.specs.Readings.{ReadsOn, behind}
 use Rattle.lane_stages.specs.Readings.{none_asked}
-use Rattle.lane_context.specs.Contexts.{IsContext, hand_of, Fits, HasRoomFor, next_of, HasTurnedClosing}
+use Rattle.lane_context.specs.Contexts.{IsContext, hand_of, HasRoomFor, next_of, HasTurnedClosing}
 use Rattle.lane_core.specs.Lanes.{Heeds, IsRunningLane, reads_closing, IsClosing, IsBegun, SameLane, commands_left, entries_since, number_of}
 use Rattle.lane_core.specs.Steps.{HasStepped, stepped_of}
 use Rattle.lane_core.proofs.LaneGrown.{lane_at, room_to_close, room_to_begin}
@@ -44,12 +44,6 @@ module _ (pool : SharedPool) (l : Lane) (lane : IsRunningLane pool l) where
   module _ (stage : Draining) (is : l.stage ≡ Closing stage) where
     pub close_none : commands_left l ≡ []
     close_none = lane.all_answered (subst IsClosing (sym is) tt)
-
-    pub close_context : IsContext pool (draining.hand_of Close stage) l.context
-    close_context = subst (λ (x : Stage). IsContext pool (hand_of x) l.context) is lane.context
-
-    pub close_fits : draining.Fits pool l.context.seat stage
-    close_fits = subst (λ (x : Stage). Fits pool l.context x) is lane.fits
 
     pub close_had : ReadsOn (closing (number_of l)) (entries_since l) none_asked
         (draining.rest_of Close (number_of l) stage)

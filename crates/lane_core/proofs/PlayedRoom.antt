@@ -27,8 +27,3 @@ pub All-moved : {X Y : Type 0} (P : Y → Type 0) (f : X → Y) (all left : List
     → done ++ map f left ≡ map f all → All (λ x. P (f x)) all → All P done
 All-moved P f all [] done none e h = subst (All P) (sym (sym (append-nil done) ∙ e)) (All-map P f all h)
 All-moved P f all (x ∷ left) done none e h = absurd (omega arith)
-
-pub moved-all : {X Y : Type 0} (f : X → Y) (all left : List X) (done : List Y) (end : List Y) → length left ≡ 0
-    → done ++ map f left ≡ end → done ≡ end
-moved-all f all [] done end none e = sym (append-nil done) ∙ e
-moved-all f all (x ∷ left) done end none e = absurd (omega arith)

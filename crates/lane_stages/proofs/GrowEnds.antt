@@ -11,7 +11,6 @@ use Rattle.pool_law.specs.declared.note.Held.{Held}
 use Rattle.pool_law.specs.declared.note.Note.{Note}
 use Rattle.pool_law.specs.declared.note.Object.{Object}
 use Rattle.pool_law.specs.declared.note.Object.TheVariants as object
-use Rattle.pool_law.specs.declared.run.Shape.{Shape}
 use Rattle.pool_law.specs.Limits.{has_cache}
 use Rattle.pool_law.specs.Patterns.{grow_with, one_more, put_away}
 use Rattle.pool_law.specs.Readers.{◌>>◌, give}
@@ -48,9 +47,6 @@ use Rattle.seat_work.proofs.Holds.{is_region, region_stays}
 
 module _ (pool : SharedPool) (old new : PoolSeat) (root : RootId) (size class : ℕ) (is : IsPoolSeat pool new)
     (same : SameSeat old new) where
-  abbrev shape : Shape
-  shape = pool.table.layout.shape
-
   abbrev lane : ℕ
   lane = lane_of old
 

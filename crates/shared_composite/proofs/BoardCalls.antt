@@ -20,7 +20,7 @@ use Rattle.shared_composite.specs.declared.home.Home.{Home}
 use Rattle.shared_composite.specs.declared.home.Origin.{Origin}
 use Rattle.shared_composite.specs.Cores.{IsCore, IsKept, turns_of}
 use Rattle.shared_composite.specs.Homes.{CoreStands, HomeStands, AreBoxed, core_in_slot, cores_in, core_of, home_turns}
-use Rattle.shared_composite.specs.Boards.{origin_of, IsPoolOf, IsAtHome, InSection, AreCores, AreLeft, IsMadeOf, parts_in, core_in}
+use Rattle.shared_composite.specs.Boards.{origin_of, IsPoolOf, IsAtHome, InSection, AreCores, AreLeft, IsMadeOf, core_in}
 use Rattle.shared_composite.proofs.CoreLaws.{kept_on, kept_self}
 use Rattle.shared_composite.proofs.Boxes.{place_at, places_are, box_at, boxed_cores, boxed_length}
 use Rattle.std.proofs.lemmas.List.{length-map}
@@ -39,12 +39,6 @@ pub of_pool : (y : Option Origin) (pool : SharedPool) (k : ℕ) (core : Core)
 of_pool y pool k core is at =
     let same : at.0 ≡ is.0 = same_Some at.0 is.0 (sym at.1 ∙ is.1) in
     subst (λ (p : SharedPool). IsCore p core) (ap (λ (o : Origin). o.pool) same ∙ sym is.2) at.2.core_is
-
--- its components are those of the composite
-pub parts_are : (y : Option Origin) (k : ℕ) (core : Core)
-    → (origin : Origin) × (y ≡ Some origin) × CoreStands origin k core → parts_in (core_in y k) ≡ core.parts
-parts_are y k core at =
-    ap (λ (o : Option Origin). parts_in (core_in o k)) at.1 ∙ ap parts_in at.2.made_is ∙ sym at.2.kept.parts
 
 -- further on by gets it still is
 pub still_home : (y : Option Origin) (pool : SharedPool) (k : ℕ) (core after : Core)

@@ -1,5 +1,5 @@
 -- Gets one after another: those of one list of parts and then those of another.
-use Rattle.std.proofs.Common.{◌≡◌, ℕ, List, [], ◌∷◌, ◌++◌, length, Bool, true, false, refl, sym, ap, ◌∙◌, subst, arith, append_assoc, append-nil, ne_eqb}
+use Rattle.std.proofs.Common.{◌≡◌, ℕ, List, [], ◌∷◌, ◌++◌, length, Bool, true, false, refl, sym, ap, ◌∙◌, subst, append_assoc, append-nil, ne_eqb}
 use Rattle.std.specs.Prelude.{◌==◌, not, if◌then◌else◌}
 use Rattle.pool_law.specs.declared.id.Part.{Part}
 use Rattle.pool_law.specs.declared.note.Did.{Did}
@@ -18,14 +18,7 @@ filled_none q is = ap (λ (b : Bool). if not b then q ∷ [] else []) is
 pub filled_one : (q : Part) → (q.len == 0) ≡ false → filled (q ∷ []) ≡ q ∷ []
 filled_one q is = ap (λ (b : Bool). if not b then q ∷ [] else []) is
 
-no_bytes : (bytes : List ℕ) → length bytes ≡ 0 → bytes ≡ []
-no_bytes [] none = refl
-no_bytes (b ∷ bytes) none = absurd (omega (arith, none))
-
 module _ (pool : SharedPool) where
-  pub gets_none : (s : PoolSeat) → Gets pool [] s s []
-  gets_none s = (refl, refl)
-
   pub gets_on : (ps qs : List Part) (old mid new : PoolSeat) (xs ys : List ℕ) → Gets pool ps old mid xs
       → Gets pool qs mid new ys → Gets pool (ps ++ qs) old new (xs ++ ys)
   gets_on [] qs old mid new xs ys first later =

@@ -1,7 +1,7 @@
 -- How a range of a core's components is read, one component after another.
 use Rattle.std.proofs.Common.{◌≡◌, ℕ, suc, ◌+◌, ◌-◌, ◌<◌, ◌≤◌, List, [], ◌∷◌, ◌++◌, length, take, drop, Bool, true, false, refl, sym, ap, ◌∙◌, subst, arith, append_assoc, length-append, ne_eqb}
 use Rattle.std.specs.Prelude.{◌==◌, not, min, Contains, Some, slice_get}
-use Rattle.std.proofs.lemmas.List.{drop_all, drop-drop, length-drop, take-append-drop}
+use Rattle.std.proofs.lemmas.List.{drop-drop, length-drop, take-append-drop}
 use Rattle.std.proofs.lemmas.List.Elements.{filter-append}
 use Rattle.std.proofs.Math.Seq.{take-append_seam, drop-append_seam}
 use borrow.Rule.Slice.PartMut.{mid_of, put_mid}
@@ -89,15 +89,6 @@ module _ (pool : SharedPool) (old now : Core) (start : ℕ) (unfilled filling : 
     (far : IsReadTo pool old now start unfilled filling skip done k) where
   abbrev n : ℕ
   n = length unfilled - done
-
-  -- once all components are passed
-  module _ (all : length old.parts ≤ k) where
-    none_left : drop k old.parts ≡ []
-    none_left = drop_all k old.parts all
-
-    nothing_left : length unfilled ≤ done
-    nothing_left =
-        let a = far.there in let b = ap (λ (ps : List Part). size_of ps) none_left in omega (arith, a, b)
 
   -- the next component, of which s bytes are skipped and t are read
   module _ (p : Part) (there : slice_get old.parts k ≡ Some p) (s t : ℕ) (skipped : s ≡ min skip p.len)
