@@ -1,5 +1,5 @@
 -- Fronts of lists of bytes.
-use Rattle.std.proofs.Common.{◌≡◌, ℕ, ◌+◌, ◌-◌, ◌≤◌, List, [], ◌++◌, length, take, drop, ap, sym, ◌∙◌, arith, length-drop, length-take}
+use Rattle.std.proofs.Common.{◌≡◌, ℕ, ◌+◌, ◌-◌, ◌≤◌, List, [], ◌++◌, length, take, drop, sym, ◌∙◌, arith, length-drop, length-take}
 use Rattle.std.proofs.Math.Seq.{take-append_seam, take-append-add}
 use Rattle.std.specs.Prelude.{Option, ◌==◌, ◌&&◌, nat_lt, false}
 use Rattle.std.specs.Bool.{MatchBool}
@@ -7,20 +7,13 @@ use Rattle.std.proofs.lemmas.Bool.Decides.{nat_tests}
 use Rattle.text_ends.specs.Ends.{Rose}
 use Rattle.std.specs.Io.KnownBytes.{Appends}
 use Rattle.std.proofs.KnownBytes.{Appends-trans}
-use Rattle.std.proofs.lemmas.List.{drop_all, take_all, drop-drop, take-append-drop}
+use Rattle.std.proofs.lemmas.List.{drop_all, take_all, take-append-drop}
 
 -- the front of a buffer into which a part was copied
 pub front_copied : (part rest : List ℕ) (n : ℕ) → length part ≡ n → take n (part ++ rest) ≡ part
 front_copied part rest n e =
     let front : take (length part) (part ++ rest) ≡ part = take-append_seam part rest in
     rw e at front
-
--- what was left is the part, and what is left then
-pub read_is : (xs part rest : List ℕ) (at n : ℕ) → part ≡ take n (drop at xs) → length part ≡ n
-    → drop at xs ≡ take n (part ++ rest) ++ drop (at + n) xs
-read_is xs part rest at n e long =
-    rw (front_copied part rest n long, e)
-    (sym (ap (λ (ys : List ℕ). take n (drop at xs) ++ ys) (sym (drop-drop n at xs)) ∙ take-append-drop n (drop at xs)))
 
 pub nothing_left : (xs : List ℕ) (at : ℕ) → length xs ≤ at → drop at xs ≡ []
 nothing_left xs at h = drop_all at xs h

@@ -1,5 +1,5 @@
 -- Elements of lists by their places.
-use Rattle.std.proofs.Common.{◌≡◌, ◌<◌, ◌⊎◌, inl, inr, ⊎_elim, ℕ, zero, suc, ◌+◌, List, [], ◌∷◌, ◌++◌, set, get_or, drop, length, Some, refl, sym, ap, ◌∙◌, subst, arith}
+use Rattle.std.proofs.Common.{◌≡◌, ◌<◌, ◌⊎◌, inl, inr, ⊎_elim, ℕ, zero, suc, ◌+◌, List, [], ◌∷◌, ◌++◌, set, get_or, drop, length, Some, refl, ap, ◌∙◌, subst, arith}
 use Rattle.std.specs.Prelude.{All, slice_get}
 use Rattle.std.proofs.lemmas.Option.{get_or_from_slice_get, slice_get-get_or, slice_get_read, slice_get_within, same_Some}
 use Rattle.std.proofs.lemmas.List.{drop-drop, get_or-drop}
@@ -12,12 +12,6 @@ set_cases (y ∷ ys) zero v zero x e = inl (refl, same_Some _ _ e)
 set_cases (y ∷ ys) zero v (suc j) x e = inr e
 set_cases (y ∷ ys) (suc i) v zero x e = inr e
 set_cases (y ∷ ys) (suc i) v (suc j) x e = ⊎_elim (λ h. inl (ap suc h.0, h.1)) inr (set_cases ys i v j x e)
-
--- setting what stands there changes nothing
-pub set_same : {X : Type 0} (xs : List X) (i : ℕ) (x : X) → slice_get xs i ≡ Some x → set xs i x ≡ xs
-set_same [] i x e = refl
-set_same (y ∷ ys) zero x e = λ k. same_Some _ _ (sym e) k ∷ ys
-set_same (y ∷ ys) (suc i) x e = λ k. y ∷ set_same ys i x e k
 
 -- an element behind which one more was pushed
 pub pushed : {X : Type 0} (xs : List X) (y : X) (i : ℕ) (x : X) → slice_get (xs ++ y ∷ []) i ≡ Some x
