@@ -4,7 +4,6 @@ use Rattle.std.proofs.lemmas.List.{get_or-map}
 use Rattle.pool_law.specs.declared.command.Command.{Command}
 use Rattle.pool_law.specs.declared.run.Answered.{Answered}
 use Rattle.pool_law.specs.declared.run.LaneLog.{LaneLog}
-use Rattle.pool_law.specs.declared.run.Run.{Run}
 use Rattle.pool_law.specs.declared.run.Shape.{Shape}
 use Rattle.pool_law.specs.LaneLaw.{IsLaneLog, behind, closes, note_counts}
 use Rattle.pool_law.specs.Logs.{Logs, entry_of, entries_of, of_lane}
@@ -72,9 +71,3 @@ logs-same (x ∷ xs) (y ∷ ys) replies notes =
     let others : map (λ l. l.notes) xs ≡ map (λ l. l.notes) ys = cc notes in
     let rest : xs ≡ ys = logs-same xs ys more others in
     λ i. record { replies = said i; notes = noted i } ∷ rest i
-
--- runs are the same whose parts are
-pub run-same : (x y : Run) → x.trace ≡ y.trace → x.shape ≡ y.shape → x.logs ≡ y.logs → x.chunks ≡ y.chunks
-    → x.leaks ≡ y.leaks → x ≡ y
-run-same x y trace shape logs chunks leaks =
-    λ i. record { trace = trace i; shape = shape i; logs = logs i; chunks = chunks i; leaks = leaks i }

@@ -1,9 +1,7 @@
 -- What was done, by the first of its words.
 use Rattle.std.proofs.Common.{◌≡◌, ℕ, true, List, ◌∷◌, ◌++◌, Result, codes, refl}
-use Rattle.pool_law.specs.declared.id.Parcel.{Parcel}
 use Rattle.pool_law.specs.declared.id.RegionId.{RegionId}
 use Rattle.pool_law.specs.declared.id.RootId.{RootId}
-use Rattle.pool_law.specs.declared.note.CacheNo.{CacheNo}
 use Rattle.pool_law.specs.declared.note.Did.{Did}
 use Rattle.pool_law.specs.Text.{Text, did_words, spaced}
 use Rattle.run_text.specs.declared.TextNo.{TextNo}
@@ -71,73 +69,6 @@ did_word (Did.End root) = refl
 
 -- which word it is says what was done
 module _ (P : Did → Type 0) where
-  pub only_take : (did : Did) → head (did_words did) ≡ codes "take"
-      → ((class : ℕ) (region : RegionId) → P (Did.Take class region)) → P did
-  only_take (Did.Take class region) is p = p class region
-  only_take did is p = absurd (texts_apart (head (did_words did)) (codes "take") refl is)
-
-  pub only_full : (did : Did) → head (did_words did) ≡ codes "full" → ((class : ℕ) → P (Did.Full class)) → P did
-  only_full (Did.Full class) is p = p class
-  only_full did is p = absurd (texts_apart (head (did_words did)) (codes "full") refl is)
-
-  pub only_give : (did : Did) → head (did_words did) ≡ codes "give" → ((region : RegionId) → P (Did.Give region))
-      → P did
-  only_give (Did.Give region) is p = p region
-  only_give did is p = absurd (texts_apart (head (did_words did)) (codes "give") refl is)
-
-  pub only_hit : (did : Did) → head (did_words did) ≡ codes "hit" → ((region : RegionId) → P (Did.Hit region)) → P did
-  only_hit (Did.Hit region) is p = p region
-  only_hit did is p = absurd (texts_apart (head (did_words did)) (codes "hit") refl is)
-
-  pub only_miss : (did : Did) → head (did_words did) ≡ codes "miss" → P Did.Miss → P did
-  only_miss Did.Miss is p = p
-  only_miss did is p = absurd (texts_apart (head (did_words did)) (codes "miss") refl is)
-
-  pub only_kept : (did : Did) → head (did_words did) ≡ codes "kept" → ((region : RegionId) → P (Did.Kept region))
-      → P did
-  only_kept (Did.Kept region) is p = p region
-  only_kept did is p = absurd (texts_apart (head (did_words did)) (codes "kept") refl is)
-
-  pub only_back : (did : Did) → head (did_words did) ≡ codes "back"
-      → ((region : RegionId) (why : CacheNo) → P (Did.Back region why)) → P did
-  only_back (Did.Back region why) is p = p region why
-  only_back did is p = absurd (texts_apart (head (did_words did)) (codes "back") refl is)
-
-  pub only_trim : (did : Did) → head (did_words did) ≡ codes "trim" → ((quota : ℕ) → P (Did.Trim quota)) → P did
-  only_trim (Did.Trim quota) is p = p quota
-  only_trim did is p = absurd (texts_apart (head (did_words did)) (codes "trim") refl is)
-
-  pub only_close : (did : Did) → head (did_words did) ≡ codes "close" → ((quota : ℕ) → P (Did.Close quota)) → P did
-  only_close (Did.Close quota) is p = p quota
-  only_close did is p = absurd (texts_apart (head (did_words did)) (codes "close") refl is)
-
-  pub only_shed : (did : Did) → head (did_words did) ≡ codes "shed" → ((region : RegionId) → P (Did.Shed region))
-      → P did
-  only_shed (Did.Shed region) is p = p region
-  only_shed did is p = absurd (texts_apart (head (did_words did)) (codes "shed") refl is)
-
-  pub only_handle : (did : Did) → head (did_words did) ≡ codes "handle" → ((place : ℕ) → P (Did.Handle place)) → P did
-  only_handle (Did.Handle place) is p = p place
-  only_handle did is p = absurd (texts_apart (head (did_words did)) (codes "handle") refl is)
-
-  pub only_none : (did : Did) → head (did_words did) ≡ codes "none" → P Did.NoHandle → P did
-  only_none Did.NoHandle is p = p
-  only_none did is p = absurd (texts_apart (head (did_words did)) (codes "none") refl is)
-
-  pub only_home : (did : Did) → head (did_words did) ≡ codes "home" → ((place : ℕ) → P (Did.Home place)) → P did
-  only_home (Did.Home place) is p = p place
-  only_home did is p = absurd (texts_apart (head (did_words did)) (codes "home") refl is)
-
-  pub only_post : (did : Did) → head (did_words did) ≡ codes "post" → ((parcel : Parcel) → P (Did.Post parcel))
-      → P did
-  only_post (Did.Post parcel) is p = p parcel
-  only_post did is p = absurd (texts_apart (head (did_words did)) (codes "post") refl is)
-
-  pub only_fetch : (did : Did) → head (did_words did) ≡ codes "fetch" → ((parcel : Parcel) → P (Did.Fetch parcel))
-      → P did
-  only_fetch (Did.Fetch parcel) is p = p parcel
-  only_fetch did is p = absurd (texts_apart (head (did_words did)) (codes "fetch") refl is)
-
   pub only_birth : (did : Did) → head (did_words did) ≡ codes "birth"
       → ((root : RootId) (region : RegionId) → P (Did.Birth root region)) → P did
   only_birth (Did.Birth root region) is p = p root region

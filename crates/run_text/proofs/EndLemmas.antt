@@ -16,15 +16,6 @@ no_chunk = record { arena = 0; chunk = 0; list = ListName.QInit; used = 0; free 
 abbrev pub no_access : Access
 no_access = Access.Touch 0
 
--- the name of a list is a word
-pub is_word-list : (list : ListName) → is_word (list_word list) ≡ true
-is_word-list ListName.QInit = refl
-is_word-list ListName.Q000 = refl
-is_word-list ListName.Q025 = refl
-is_word-list ListName.Q050 = refl
-is_word-list ListName.Q075 = refl
-is_word-list ListName.Q100 = refl
-
 -- the words of a chunk, from each on
 abbrev pub from_free : ChunkEnd → List Text
 from_free c = codes "free" ∷ decimal c.free ∷ []

@@ -43,10 +43,6 @@ is_word-command (Command.Compose fresh names) = refl
 is_word-command (Command.Add whole name) = refl
 is_word-command (Command.Capacity name size) = refl
 
--- what is read where there is no command, and no reply
-abbrev pub no_command : Command
-no_command = Command.Retain 0
-
 abbrev pub no_reply : Reply
 no_reply = Reply.Ok
 

@@ -1,5 +1,5 @@
 -- Texts that are shown: lines of them, and their words.
-use Rattle.std.proofs.Common.{◌≡◌, ℕ, ◌+◌, ◌<◌, ◌^◌, ◌%◌, ◌/◌, Bool, true, false, List, [], ◌∷◌, ◌++◌, map, refl, sym, ap, ◌∙◌, arith, append_assoc, decimal, nat_lt}
+use Rattle.std.proofs.Common.{◌≡◌, ℕ, ◌+◌, ◌<◌, ◌^◌, ◌%◌, ◌/◌, Bool, true, false, List, [], ◌∷◌, ◌++◌, refl, sym, ap, ◌∙◌, arith, append_assoc, decimal, nat_lt}
 use Rattle.std.specs.Prelude.{◌&&◌, if◌then◌else◌}
 use Rattle.std.proofs.lemmas.Bool.Decides.{nat_tests}
 use Rattle.std.proofs.lemmas.Fmt.{decimal_by_steps}
@@ -19,11 +19,6 @@ line_first words rest = append_assoc (spaced words) (10 ∷ []) rest
 pub AreShown-append : (a b : List Text) → AreShown a → AreShown b → AreShown (a ++ b)
 AreShown-append [] b h k = k
 AreShown-append (t ∷ a) b h k = (h.0, AreShown-append a b h.1 k)
-
-pub AreShown-map : {X : Type 0} (f : X → Text) → ((x : X) → is_shown (f x) ≡ true) → (xs : List X)
-    → AreShown (map f xs)
-AreShown-map f each [] = tt
-AreShown-map f each (x ∷ xs) = (each x, AreShown-map f each xs)
 
 -- ---- What is shown.
 
@@ -49,12 +44,6 @@ shown-decimal n small =
 
 pub small : (n : ℕ) → n < 2 ^ 32 → is_shown (decimal n) ≡ true
 small n low = shown-decimal n (omega (arith, low))
-
-pub shown-marked : (mark a b : ℕ) → nat_lt 31 mark ≡ true → a < 2 ^ 64 → b < 2 ^ 64
-    → is_shown (decimal a ++ mark ∷ decimal b) ≡ true
-shown-marked mark a b high low least =
-    shown-append (decimal a) (mark ∷ decimal b) (shown-decimal a low)
-    (shown-cons mark (decimal b) high (shown-decimal b least))
 
 shown-digit : (d : ℕ) (rest : Text) → is_shown rest ≡ true → is_shown (hex_digit d ∷ rest) ≡ true
 shown-digit d rest h = shown-cons (hex_digit d) rest (each (nat_lt d 10)) h

@@ -114,9 +114,6 @@ module _ (logs : Logs) (front back : List Line) (line : Line) (is : told_from 0 
   front-there j l e =
       ap (λ (lines : List Line). slice_get lines j) is ∙ get-front front (line ∷ back) j l e
 
-  pub front-placed : (j : ℕ) (l : Line) → slice_get front j ≡ Some l → Placed logs j l
-  front-placed j l e = placed-at logs j l (front-there j l e)
-
   pub front-below : (j : ℕ) (l : Line) → slice_get front j ≡ Some l → j < length front
   front-below j l e = slice_get-below front j l e
 
