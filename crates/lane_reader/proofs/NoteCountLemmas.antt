@@ -1,7 +1,7 @@
 -- The counts that the law reads are those of any whole reading.
 use Rattle.std.proofs.Common.{◌≡◌, ℕ, zero, suc, ◌<◌, ◌≤◌, List, [], ◌∷◌, ◌++◌, length, take, drop, refl, sym, ap, arith, subst, ⊎_elim, ◌∙◌}
 use Rattle.std.specs.Prelude.{◌⊎◌, min, slice_get, Some}
-use Rattle.std.proofs.lemmas.List.{length-map, length-take, take-take, take_all}
+use Rattle.std.proofs.lemmas.List.{length-take, take-take, take_all}
 use Rattle.pool_law.specs.declared.command.Command.{Command}
 use Rattle.pool_law.specs.declared.run.Shape.{Shape}
 use Rattle.pool_law.specs.declared.run.Reply.{Reply}
@@ -37,14 +37,6 @@ module _ (shape : Shape) (lane : ℕ) (cs : List Command) (rs : List Reply) (es 
     -- there are as many commands, replies and answers
     commands-long : length cs ≡ length answered
     commands-long = answered-lengths shape lane cs answered es all
-
-    replies-long : length rs ≡ length answered
-    replies-long =
-        omega (
-          arith,
-          ap (λ (replies : List Reply). length replies) same,
-          length-map answered (λ (a : Answered). a.reply),
-        )
 
     -- the first so many answers are those that the law reads
     front : cut.first ≡ take (length counts) answered
