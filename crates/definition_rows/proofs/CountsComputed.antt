@@ -6,12 +6,12 @@ use Rattle.std.proofs.lemmas.Bool.{ltb-true}
 use Rattle.pool_law.specs.declared.id.RootId.{RootId}
 use Rattle.pool_law.specs.declared.id.ViewData.{ViewData}
 use Rattle.pool_law.specs.declared.note.Did.TheVariants.{Post, Fetch, Birth}
-use Rattle.pool_law.specs.declared.note.RefDid.TheVariants.{Ended, Look}
+use Rattle.pool_law.specs.declared.note.RefDid.TheVariants.{Look}
 use Rattle.pool_law.specs.declared.note.Note.{Note}
 use Rattle.pool_law.specs.declared.note.Note.TheVariants.{At, Ref, Busy}
 use Rattle.pool_law.specs.Same.{same_root}
 use Rattle.pool_law.specs.Logs.{ToldNote, of_lane}
-use Rattle.pool_law.specs.Counts.{view_is_of, root_is, note_gains, note_loses, note_needs, needs_count, ends_root, count_step, CountsHold, count_in, count_over, names_root, is_retain, is_release, is_birth, TotalHolds}
+use Rattle.pool_law.specs.Counts.{view_is_of, root_is, note_gains, note_loses, note_needs, needs_count, count_step, CountsHold, count_in, count_over, names_root, is_retain, is_release, is_birth, TotalHolds}
 use Rattle.pool_law.specs.Legal.{LookAt, LooksHold, one_if, others_retains, CountsAgree}
 use Rattle.pool_law.proofs.SameLemmas.{and-first, and-second, same_root-is}
 use Rattle.definition_rows.proofs.Lanes.{all_from, all_lanes}
@@ -49,10 +49,6 @@ module _ (roots : List RootId) (root : RootId) (absent : listed same_root roots 
   needs-unnamed (At object number (Post parcel)) e = view_is-unnamed parcel.view e
   needs-unnamed (At object number _) e = refl
   needs-unnamed (Busy held) e = refl
-
-  ends-unnamed : (n : Note) → note_listed roots n ≡ true → ends_root root n ≡ false
-  ends-unnamed (Ref r Ended) e = another r e
-  ends-unnamed _ e = refl
 
   birth-unnamed : (n : Note) → note_listed roots n ≡ true → is_birth root n ≡ false
   birth-unnamed (At object number (Birth r region)) e = another r e

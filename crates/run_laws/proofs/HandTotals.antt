@@ -199,10 +199,6 @@ module _ (shape : Shape) (logs : Logs) (holds : HistoriesPaged shape logs) (acts
           given-total,
         )
 
-    -- what is shed is given back
-    pub drops : sheds_in logs r ≤ gives_in logs r
-    drops = omega (arith, (hands-total r logs acts).given, shed-total, given-total)
-
     pub removes-are : (ds : List Did) → total_by (removes r) ds ≡ total_by (hits r) ds + total_by (sheds_of r) ds
     removes-are [] = refl
     removes-are (Hit x ∷ ds) = omega (arith, removes-are ds)

@@ -127,9 +127,6 @@ module _ (shape : Shape) (logs : Logs) (holds : HistoriesPaged shape logs) (acts
   pub ends-most_of : (r : RegionId) → ends_in logs r ≤ 1
   ends-most_of r = omega (arith, source-most r)
 
-  pub given-most : (r : RegionId) → gives_in logs r ≤ 1
-  given-most r = omega (arith, uses-less shape logs holds acts r, source-most r)
-
   -- a region that is used was taken
   pub taken-of : (n : ℕ) (r : RegionId) → 1 ≤ births_in logs (with_uses r n) → 1 ≤ takes_in logs (with_uses r 0)
   taken-of zero r h = absurd (omega (arith, unused-none (with_uses r 0) refl, h))
