@@ -3,10 +3,8 @@ use Rattle.std.proofs.Common.{List, [], ◌∷◌, ◌++◌}
 use Rattle.pool_law.specs.declared.run.Shape.{Shape}
 use Rattle.pool_law.specs.declared.note.Noted.{Noted}
 use Rattle.pool_law.specs.declared.note.Object.{Object}
-use Rattle.pool_law.specs.NotedHistories.{NotedMayFollow}
 use Rattle.history_laws.specs.Histories.{IsLawful}
 use Rattle.history_laws.specs.Standing.{IsInPlace}
-use Rattle.history_laws.proofs.Runs.{right_push}
 use Rattle.history_laws.proofs.Bins.{placed, mailed}
 use Rattle.history_laws.proofs.Roots.{rooted}
 use Rattle.history_laws.proofs.TakingMoves.{regioned, of_class}
@@ -21,8 +19,3 @@ in_place s o h n t =
           regioned s o h n t;
       of_class = of_class s o h n t;
     }
-
--- a history with a note that may follow it
-pub longer : (s : Shape) (o : Object) (h : List Noted) (n : Noted) → IsLawful s o h → NotedMayFollow s o h n
-    → IsLawful s o (h ++ n ∷ [])
-longer s o h n t f = record { accepted = f.accepted; right = right_push o h n t.right f.right }

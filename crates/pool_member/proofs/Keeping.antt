@@ -310,9 +310,6 @@ module _ (pool : SharedPool) (m : Member) (is : IsThread pool m) where
   pub has_count : (root : RootId) → 0 < counted m.account.counts root → HasCount root (view_of m.seat)
   has_count root lt = let a = is.counts root in omega (arith, a, lt)
 
-  pub counts_it : (root : RootId) → HasCount root (view_of m.seat) → 0 < counted m.account.counts root
-  counts_it root has = let a = is.counts root in omega (arith, a, has)
-
   -- a root that the seat counts then is the only one of its place that the account has
   pub alone_at : (root : RootId) (c : Change) (new : PoolSeat) → IsPoolSeat pool new
       → Changes c (view_of m.seat) (view_of new) → ((other : RootId) → times other c.gone ≡ 0)

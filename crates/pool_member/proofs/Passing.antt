@@ -1,5 +1,5 @@
 -- A thread that parted with a root, and one that accepted one.
-use Rattle.std.proofs.Common.{◌≡◌, ◌≢◌, ℕ, ◌+◌, ◌^◌, ◌<◌, ◌≤◌, true, List, [], ◌∷◌, ◌++◌, length, Option, Some, None, refl, sym, ap, ◌∙◌, subst, ⊎_elim, arith, eqb-true}
+use Rattle.std.proofs.Common.{◌≡◌, ◌≢◌, ℕ, ◌+◌, ◌^◌, ◌<◌, ◌≤◌, List, [], ◌∷◌, ◌++◌, length, Option, Some, sym, ap, ◌∙◌, subst, ⊎_elim, arith}
 use Rattle.std.specs.Prelude.{slice_get, slice_set, unwrap_or}
 use Rattle.std.proofs.lemmas.Bool.{cases_eq}
 use Rattle.std.proofs.lemmas.List.Sums.{sum_by_push}
@@ -17,7 +17,7 @@ use Rattle.shared_pool.specs.SeatLanes.{lane_of}
 use Rattle.shared_pool.specs.SeatViews.{view_of}
 use Rattle.seat_work.specs.HandOvers.{Sends}
 use Rattle.pool_member.specs.declared.member.Member.{Member}
-use Rattle.pool_member.specs.Refusals.{MayAccept, is_next}
+use Rattle.pool_member.specs.Refusals.{MayAccept}
 use Rattle.pool_member.specs.Threads.{HasOwnChannels, IsThread}
 
 module _ (from to number : ℕ) (lane : Option ℕ) (parcel : Parcel) (es : List Entry) where
@@ -81,11 +81,6 @@ module _ (pool : SharedPool) (m : Member) (is : IsThread pool m) where
         (λ i. ((ap (λ (n : Option ℕ). unwrap_or n 0) sends.number ∙ lane_is) i, lane_is i)) (sends.sent other)
 
 -- ---- A letter that comes.
-
--- the next number of a way
-pub next_of : (o : Option ℕ) (n : ℕ) → is_next o n ≡ true → (k : ℕ) × (o ≡ Some k) × (n ≡ k + 1)
-next_of None n e = absurd (cc e)
-next_of (Some k) n e = (k, refl, eqb-true n (k + 1) e)
 
 module _ (pool : SharedPool) (m : Member) (is : IsThread pool m) (x : Letter) (may : MayAccept m.account x)
     (from_is : x.from < pool.table.layout.shape.lanes) where

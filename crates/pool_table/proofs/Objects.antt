@@ -28,9 +28,6 @@ module _ {H : Type 0} (stands : List ℕ → Setting → List Noted → H → Ty
   abbrev K : List ObjectView → ℕ → maybe.Option (maybe.Option (Option H)) → Type 0
   K object_views word home = IsKept stands shape setting o object_views word home
 
-  abbrev Limit : List ObjectView → ℕ → ObjectView → ℕ
-  Limit object_views n f = n + (inside_total object_views - is_in f)
-
   pub claimed_kept : (object_views : List ObjectView) (word : ℕ) (home home' : maybe.Option (maybe.Option (Option H)))
       (id : ℕ)
       (f : ObjectView) (x : Inside) (k : K object_views word home) → get_elem? object_views id ≡ some f
