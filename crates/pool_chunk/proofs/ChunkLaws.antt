@@ -1,15 +1,14 @@
 -- What a chunk keeps when a run is taken or given back, and when the elements of a subpage change.
 use Rattle.std.proofs.Common.{◌≡◌, ℕ, zero, suc, ◌+◌, ◌-◌, ◌<◌, ◌≤◌, List, [], ◌∷◌, ◌++◌, length, refl, ◌∙◌, subst, arith, eq-eqb, ne_eqb}
-use Rattle.std.specs.Prelude.{Bool, true, false, not, ◌==◌, slice_get, slice_set, unwrap_or, Option, Some, None}
-use Rattle.std.proofs.lemmas.List.Quantifiers.{position-Some}
+use Rattle.std.specs.Prelude.{Bool, true, false, ◌==◌, slice_get, slice_set, unwrap_or}
 use Rattle.std.proofs.lemmas.List.{length-set, length-replicate}
 use Rattle.size_classes.specs.Sizes.{Geometry, is_small, subpage_pages, element_count}
 use Rattle.size_classes.specs.Pages.{Run, Free, Used, pages_in, total_pages, free_pages, rest_of, front_used, freed, replaced, taken_at, given_at, begins_free, NoneEmpty, NoneSideBySide}
 use Rattle.size_classes.specs.Runs.{Begins, EachRun}
-use Rattle.size_classes.specs.Elements.{Elements, new_elements, first_free, first_of_two, next_element, with_out, with_back, is_out}
+use Rattle.size_classes.specs.Elements.{Elements, new_elements, with_out, with_back, is_out}
 use Rattle.size_classes.proofs.ElementLaws.{out_within}
 use Rattle.size_classes.proofs.Runs.{EachRun-Begins, replaced-EachRun, replaced-total, merged-total, merged-NoneEmpty, merged-EachRun, merged-apart, rest_of-total, rest_of-NoneEmpty, rest_of-EachRun}
-use Rattle.pool_law.specs.Chunks.{Chunk, Use, Whole, Sub, RemembersFree, IsSubpage, SubpagesFit, IsChunk, used_pages}
+use Rattle.pool_law.specs.Chunks.{Chunk, Use, Whole, Sub, IsSubpage, SubpagesFit, IsChunk, used_pages}
 use Rattle.pool_chunk.specs.ChunkStates.{with_elements}
 use mathlib.Core.Logic.{inl, inr}
 
@@ -83,21 +82,6 @@ back-fits g n class k e fits out =
       elements = length-set e.out k false ∙ fits.elements;
       remembers = (omega (arith, below, length-set e.out k false), is-back e.out k below);
     }
-
--- the element that is handed out next was in, and is out then
-now-out : (out : List Bool) (k : ℕ) → k < length out → unwrap_or (slice_get (slice_set out k true) k) false ≡ true
-now-out [] k h = absurd (omega arith)
-now-out (b ∷ out) zero h = refl
-now-out (b ∷ out) (suc k) h = now-out out k (omega (arith, h))
-
-next-below : (out : List Bool) (o : Option ℕ) (k : ℕ) → RemembersFree (record { out = out; remembered = o }) o
-    → first_of_two o (first_free out) ≡ Some k → k < length out
-next-below out None k free e = (position-Some not out k true e).0
-next-below out (Some j) k free e = let same : j ≡ k = cc e in subst (λ n. n < length out) same free.0
-
-pub element-out : (e : Elements) (k : ℕ) → RemembersFree e e.remembered → next_element e ≡ Some k
-    → is_out (with_out e k) k ≡ true
-element-out e k free next = now-out e.out k (next-below e.out e.remembered k free next)
 
 -- a new subpage of a small class fits
 pub new-fits : (g : Geometry) (class : ℕ) → is_small g class ≡ true

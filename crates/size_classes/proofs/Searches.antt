@@ -4,25 +4,11 @@ use Rattle.std.specs.Prelude.{nat_lt, nat_le, find, filter, count_by, position}
 use Rattle.std.specs.List.{position_or_len}
 use Rattle.std.specs.List.Sorted.{IsStrictlyIncreasing}
 use Rattle.std.proofs.lemmas.Bool.{cond_both, cases_lt, ltb-false, le-leb, lt-leb, lt-ltb, le-ltb}
-use Rattle.std.proofs.lemmas.List.Sums.{prefix_len_is, prefix_len_passes, prefix_len-le-length, length-filter}
+use Rattle.std.proofs.lemmas.List.Sums.{prefix_len_is, prefix_len-le-length, length-filter}
 use Rattle.size_classes.specs.Sizes.{least_from}
 use mathlib.Core.Logic.{inl, inr, ◌⊎◌}
 
 -- ---- in a list
-
--- a search does not fail where one passes
-pub not_past : (p : ℕ → Bool) (xs : List ℕ) (k : ℕ) → k < length xs → p (get_or xs k 0) ≡ true →
-    position p xs ≡ None → ⊥
-not_past p xs k h passes e = go (nat_lt (position_or_len p xs) (length xs)) refl e
-  where
-    go : (b : Bool) → nat_lt (position_or_len p xs) (length xs) ≡ b →
-        (if b then Some (position_or_len p xs) else None) ≡ None → ⊥
-    go true is e = cc e
-    go false is e =
-        let past : length xs ≤ position_or_len p xs = ltb-false (position_or_len p xs) (length xs) is in
-        let fails : not (p (get_or xs k 0)) ≡ true =
-        prefix_len_passes (λ x. not (p x)) xs k 0 (omega (arith, past, h)) in
-        cc (passes, fails)
 
 -- the place that a search finds, or the length
 pub position-or_len : (p : ℕ → Bool) (xs : List ℕ) → unwrap_or (position p xs) (length xs) ≡ position_or_len p xs
@@ -81,13 +67,6 @@ count-up_to n xs rises =
         by_first rest (inl above) = rw (lt-leb y n above, lt-ltb n y above) (none-up_to n y ys above rises)
         by_first rest (inr below) = rw (le-leb y n below, le-ltb n y below) (omega (arith, rest))
 
--- and the first is one of them, if it is at most n
-pub count-some : (n : ℕ) (xs : List ℕ) → 0 < length xs → get_or xs 0 0 ≤ n → 0 < count_by (λ c. nat_le c n) xs
-count-some n [] some first = absurd (omega (arith, some))
-count-some n (x ∷ xs) some first =
-    let counted : 0 < length (filter (λ c. nat_le c n) (x ∷ xs)) = rw (le-leb x n first) (omega arith) in
-    omega (arith, counted, length-filter (λ c. nat_le c n) (x ∷ xs))
-
 -- ---- from a number on
 
 -- what is found is not below where the search begins
@@ -96,29 +75,3 @@ least_from-from n zero passes = omega arith
 least_from-from n (suc more) passes =
     cond_both (passes n) n (least_from (n + 1) more passes) (λ k. n ≤ k) (λ _. omega arith)
     (λ _. omega (arith, least_from-from (n + 1) more passes))
-
--- so many numbers from n on, in ascending order
-abbrev pub numbers_from : ℕ → ℕ → List ℕ
-numbers_from n zero = []
-numbers_from n (suc more) = n ∷ numbers_from (n + 1) more
-
--- what is found among so many of them is the least
-pub least_from-find : (n few more x : ℕ) (passes : ℕ → Bool) → few ≤ more →
-    find passes (numbers_from n few) ≡ Some x → least_from n more passes ≡ x
-least_from-find n zero more x passes le e = absurd (cc e)
-least_from-find n (suc few) zero x passes le e = absurd (omega (arith, le))
-least_from-find n (suc few) (suc more) x passes le e =
-    cond_both (passes n) (Some n) (find passes (numbers_from (n + 1) few))
-    (λ o. o ≡ Some x → least_from n (suc more) passes ≡ x)
-    (λ here e. rw here (cc e))
-    (λ later e. rw later (least_from-find (n + 1) few more x passes (omega (arith, le)) e)) e
-
--- and is one of them
-pub numbers_from-find : (n few x : ℕ) (passes : ℕ → Bool) → find passes (numbers_from n few) ≡ Some x →
-    (n ≤ x) × (x < n + few)
-numbers_from-find n zero x passes e = absurd (cc e)
-numbers_from-find n (suc few) x passes e =
-    cond_both (passes n) (Some n) (find passes (numbers_from (n + 1) few))
-    (λ o. o ≡ Some x → (n ≤ x) × (x < n + suc few))
-    (λ _ e. let same : n ≡ x = cc e in (omega (arith, same), omega (arith, same)))
-    (λ _ e. let found = numbers_from-find (n + 1) few x passes e in (omega (arith, found.0), omega (arith, found.1))) e

@@ -1,5 +1,5 @@
 -- The page classes of each geometry, as the check computes them.
-use Rattle.std.proofs.Common.{◌≡◌, ℕ, ◌+◌, ◌-◌, ◌*◌, ◌^◌, ◌<◌, ◌≤◌, Bool, true, List, length, get_or, refl, sym, subst, arith, lit<}
+use Rattle.std.proofs.Common.{◌≡◌, ℕ, ◌+◌, ◌-◌, ◌*◌, ◌^◌, ◌<◌, ◌≤◌, Bool, true, List, length, get_or, refl, arith, lit<}
 use Rattle.std.specs.Prelude.{nat_lt}
 use Rattle.std.specs.List.Sorted.{IsStrictlyIncreasing}
 use Rattle.std.proofs.lemmas.Bool.{ltb-true, agree_below, agree_below_at}
@@ -59,10 +59,6 @@ counted order least most =
     (record { count = refl; last = refl; first = refl; rises = refl })
     (record { count = refl; last = refl; first = refl; rises = refl })
     order least most
-
--- and so of the page classes
-pub page_classes-shape : (g : Geometry) → IsGeometry g → Shape g.order (page_classes g)
-page_classes-shape g h = subst (Shape g.order) (sym (page_classes_counted g h)) (counted g.order h.least h.most)
 
 -- the counts of pages rise
 pub page_counts-rise : (order : ℕ) → 3 ≤ order → order ≤ 11 → IsStrictlyIncreasing (page_counts order)
