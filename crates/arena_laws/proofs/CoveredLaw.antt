@@ -2,26 +2,24 @@
 use Rattle.std.proofs.Common.{◌≡◌, inl, inr, ℕ, ◌+◌, ◌*◌, List, [], ◌∷◌, refl, sym, subst, true, Some, None}
 use Rattle.std.specs.Prelude.{nat_lt, slice_get, Option, option_and_then}
 use Rattle.std.proofs.lemmas.Bool.{cond_both}
-use Rattle.size_classes.specs.Sizes.{Geometry, class_count, page_of, size_at, IsPage}
+use Rattle.size_classes.specs.Sizes.{Geometry, class_count, page_of, size_at}
 use Rattle.size_classes.specs.Pages.{Run, Free, Used, pages_in}
 use Rattle.size_classes.specs.Runs.{Begins}
 use Rattle.size_classes.specs.Elements.{Elements}
 use Rattle.pool_law.specs.declared.id.RegionId.{RegionId}
 use Rattle.pool_law.specs.declared.note.Did.{Did}
 use Rattle.pool_law.specs.declared.note.Did.TheVariants.{Take, Full, Give}
-use Rattle.pool_law.specs.declared.run.Shape.{Shape}
-use Rattle.pool_law.specs.Limits.{geometry_of}
 use Rattle.pool_law.specs.Same.{same_region}
 use Rattle.pool_law.specs.Chunks.{Chunk, Use, Whole, Sub}
-use Rattle.pool_law.specs.Arenas.{Arena, new_arena, chunk_at, take, give, is_out_of, as_noted, if_none, arena_step}
-use Rattle.pool_law.specs.Histories.{after, arena_after}
+use Rattle.pool_law.specs.Arenas.{Arena, chunk_at, take, give, is_out_of, as_noted, if_none, arena_step}
+use Rattle.pool_law.specs.Histories.{after}
 use Rattle.arena_laws.specs.Slots.{ArenaHolds, IsOne}
 use Rattle.arena_laws.specs.Orderly.{IsAtRest, ChunkAtRest}
-use Rattle.arena_laws.specs.Covered.{IsTakenAt, IsCovered, RestsWhenAllIsBack}
+use Rattle.arena_laws.specs.Covered.{IsTakenAt, IsCovered}
 use Rattle.arena_laws.proofs.ElementSteps.{idle-where}
-use Rattle.arena_laws.proofs.ArenaLaw.{step-holds, new-holds}
-use Rattle.arena_laws.proofs.OrderlyLaw.{out-slot}
-use Rattle.arena_laws.proofs.CoveredSteps.{take-covered, new-covered}
+use Rattle.arena_laws.proofs.ArenaLaw.{step-holds}
+use Rattle.arena_laws.proofs.OutSlots.{out-slot}
+use Rattle.arena_laws.proofs.CoveredSteps.{take-covered}
 use Rattle.arena_laws.proofs.CoveredGives.{give-covered}
 
 module _ (g : Geometry) (number : ℕ) where
@@ -71,14 +69,6 @@ module _ (g : Geometry) (number : ℕ) where
       go None found is rest = absurd (cc is)
       go (Some t) found is rest = rest t (found t refl).0 (found t refl).1 is
 
--- after every history of an arena
-pub arena-covered : (shape : Shape) (number : ℕ) → IsPage shape.page → (ds : List Did) (a : Arena)
-    → arena_after shape number ds ≡ Some a → IsCovered (geometry_of shape) a
-arena-covered shape number page ds a e =
-    let g : Geometry = geometry_of shape in
-    after-covered g number ds (new_arena g shape.chunks) a (new-holds g number page shape.chunks)
-    (new-covered g shape.chunks) e
-
 -- nothing of a chunk is out that has no run in use as a whole, and no element that is out
 pub rest-where : (rs : Chunk) → ((p n : ℕ) → Begins p (Used n Whole) rs → ⊥)
     → ((p n class at : ℕ) (e : Elements) → Begins p (Used n (Sub class e)) rs → slice_get e.out at ≡ Some true → ⊥)
@@ -105,7 +95,3 @@ covered-rests g a covered none c =
   where
     no_taking : (c offset : ℕ) → IsTakenAt a.out c offset → ⊥
     no_taking c offset t = subst (λ xs. IsOne t.region xs) none t.there
-
-pub rests-when_all_is_back : (shape : Shape) (number : ℕ) → IsPage shape.page → RestsWhenAllIsBack shape number
-rests-when_all_is_back shape number page ds a e none c =
-    covered-rests (geometry_of shape) a (arena-covered shape number page ds a e) none c

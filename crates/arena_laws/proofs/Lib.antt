@@ -18,7 +18,7 @@ pub mod TakingsKept
 pub mod TakingLaw
 pub mod OrderlyTakes
 pub mod OrderlyGives
-pub mod OrderlyLaw
+pub mod OutSlots
 pub mod CoveredSteps
 pub mod CoveredGives
 pub mod CoveredLaw

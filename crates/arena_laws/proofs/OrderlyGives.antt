@@ -23,7 +23,7 @@ use Rattle.arena_laws.proofs.ArenaSteps.{chunk_at-below}
 use Rattle.arena_laws.proofs.GiveSteps.{Kept, total-here, run_given-is}
 use Rattle.arena_laws.proofs.ElementGives.{with_back-good, small_given-element, whole-page}
 use Rattle.arena_laws.proofs.UsedSteps.{UsedAt, SameBut, with_elements-same, with_elements-new, run_given-same, run_given-unused}
-use Rattle.arena_laws.proofs.OrderlyParts.{Listed, begins-listed, listed-with, Roomy, small-below, OnlyOf, in_list-step, in_list-of, orderly-from, orderly-same}
+use Rattle.arena_laws.proofs.OrderlyParts.{Listed, begins-listed, listed-with, Roomy, small-below, OnlyOf, in_list-step, in_list-of, orderly-from}
 use Rattle.arena_laws.proofs.OrderlySteps.{with_elements-kept, with_elements-listed, with_elements-only, with_elements-before}
 
 -- the lists of chunks once a run came back
@@ -254,10 +254,3 @@ given_place-orderly g a r o (inr x) =
     (subst (IsOrderly g) (sym (small_given-element g a o.sound o.whole r x))
     (element_given-orderly g a o r.class r.place.chunk x.page x.pages x.at x.elements x.kind x.begins
     (slice_get-below x.elements.out x.at true x.out)))
-
--- a taking that comes back leaves the arena in order
-pub give-orderly : (g : Geometry) (a : Arena) (r : RegionId) → IsOrderly g a → IsSlot g (chunk_at a r.place.chunk) r
-    → IsOrderly g (give g a r)
-give-orderly g a r o x =
-    orderly-same g (given_place g a r.class r.place.chunk r.place.offset) (give g a r) refl refl refl
-    (given_place-orderly g a r o x)

@@ -182,33 +182,3 @@ orderly-from g a order sound whole listed fronts in_list once =
       );
       once = once;
     }
-
--- neither the number of the takings nor those that are out are read
-pub orderly-same : (g : Geometry) (a b : Arena) → b.chunks ≡ a.chunks → b.lists ≡ a.lists → b.fronts ≡ a.fronts
-    → IsOrderly g a → IsOrderly g b
-orderly-same g a b chunks lists fronts o =
-    subst (IsOrderly g) path
-    (record {
-      order = o.order;
-      sound = o.sound;
-      whole = o.whole;
-      listed = o.listed;
-      fronts = o.fronts;
-      in_list = λ class c page small. (
-        (λ h. let r : HasRoom a class c page = (o.in_list class c page small).0 h in
-            record { elements = r.elements; here = r.here; room = r.room }),
-        λ r. (o.in_list class c page small).1 (record { elements = r.elements; here = r.here; room = r.room }),
-      );
-      once = o.once;
-    })
-  where
-    path : record a { takings = b.takings; out = b.out } ≡ b
-    path =
-        λ i. record {
-          chunks = sym chunks i;
-          lists = sym lists i;
-          fronts = sym fronts i;
-          takings = b.takings;
-          out =
-              b.out;
-        }

@@ -1,5 +1,5 @@
--- An arena is in order at first, and after each taking; a subpage that stands in a list gives an element.
-use Rattle.std.proofs.Common.{◌≡◌, ℕ, zero, suc, ◌*◌, ◌<◌, ◌≤◌, List, [], ◌∷◌, length, refl, sym, ap, subst, arith, true, false, Some, None, ◌∙◌}
+-- An arena is in order at first, and after each taking.
+use Rattle.std.proofs.Common.{◌≡◌, ℕ, zero, suc, ◌*◌, ◌<◌, ◌≤◌, List, [], ◌∷◌, length, refl, sym, ap, subst, true, false, Some, None, ◌∙◌}
 use Rattle.std.specs.Prelude.{slice_get, Option, option_map, option_and_then, replicate, unwrap_or}
 use Rattle.std.proofs.lemmas.Bool.{cond_both}
 use Rattle.std.proofs.lemmas.List.{length-replicate}
@@ -8,16 +8,14 @@ use Rattle.size_classes.specs.Pages.{Free, Used}
 use Rattle.size_classes.specs.Runs.{Begins}
 use Rattle.size_classes.specs.Elements.{Elements, new_elements, next_element}
 use Rattle.size_classes.proofs.Runs.{subpage_pages-least}
-use Rattle.pool_law.specs.declared.id.RegionId.{RegionId}
 use Rattle.pool_law.specs.Chunks.{Chunk, Use, Whole, Sub}
-use Rattle.pool_law.specs.Arenas.{Arena, Yielded, new_arena, chunk_at, run_from, take_run, elements_at, element_taken, take_element, front_of, with_subpage, take_small, take_class, noted_taking, take}
+use Rattle.pool_law.specs.Arenas.{Arena, Yielded, new_arena, chunk_at, run_from, take_run, elements_at, element_taken, take_element, front_of, with_subpage, take_small, take_class}
 use Rattle.arena_laws.specs.Slots.{ArenaHolds}
-use Rattle.arena_laws.specs.Orderly.{has_subpage, SubpagesDiffer, HasRoom, IsOrderly}
-use Rattle.arena_laws.proofs.FrontSteps.{spot-first, front-same}
-use Rattle.arena_laws.proofs.ElementSteps.{next-there, new-has_room}
+use Rattle.arena_laws.specs.Orderly.{has_subpage, SubpagesDiffer, IsOrderly}
+use Rattle.arena_laws.proofs.ElementSteps.{new-has_room}
 use Rattle.arena_laws.proofs.ElementTakes.{elements_at-is, new-subpage, pages_of-pos}
 use Rattle.arena_laws.proofs.ArenaLaw.{new-holds}
-use Rattle.arena_laws.proofs.OrderlyParts.{small-below, orderly-from, orderly-same}
+use Rattle.arena_laws.proofs.OrderlyParts.{orderly-from}
 use Rattle.arena_laws.proofs.UsedSteps.{take_run-by}
 use Rattle.arena_laws.proofs.OrderlySteps.{opened-orderly, with_run-orderly, with_subpage-orderly, element_taken-orderly}
 
@@ -50,49 +48,6 @@ new-orderly g chunks page order =
     holds = new-holds g 0 page chunks
 
 -- ---- a subpage that stands in a list
-
--- the next element of a subpage of a class
-pub record HasNext (a : Arena) (class c page : ℕ) : Type 0 where
-  pub elements : Elements
-  pub here : elements_at a class c page ≡ Some elements
-  pub next : ℕ
-  pub is : next_element elements ≡ Some next
-
--- a subpage with a free element has a next one
-pub room-next : (a : Arena) (class c page : ℕ) → HasRoom a class c page → HasNext a class c page
-room-next a class c page r = go (next_element r.elements) refl
-  where
-    go : (o : Option ℕ) → next_element r.elements ≡ o → HasNext a class c page
-    go None is = absurd (next-there r.elements r.room is)
-    go (Some k) is = record { elements = r.elements; here = r.here; next = k; is = is }
-
--- so it gives an element
-pub next-taken : (g : Geometry) (a : Arena) (class : ℕ) (spot : ℕ × ℕ) → (n : HasNext a class spot.0 spot.1)
-    → take_element g a class spot ≡ Some (element_taken g a class spot n.elements n.next)
-next-taken g a class spot n =
-    ap (option_and_then (λ e. option_map (λ k. element_taken g a class spot e k) (next_element e))) n.here
-    ∙ ap (option_map (λ k. element_taken g a class spot n.elements k)) n.is
-
--- a subpage that stands in the list of a small class has a next element
-pub spot-next : (g : Geometry) (a : Arena) (class c page : ℕ) → IsOrderly g a → is_small g class ≡ true
-    → has_subpage c page (front_of a class) ≡ true → HasNext a class c page
-spot-next g a class c page o small listed = room-next a class c page ((o.in_list class c page small).0 listed)
-
--- above all the front one
-pub front-next : (g : Geometry) (a : Arena) (class : ℕ) (spot : ℕ × ℕ) (subpages : List (ℕ × ℕ)) → IsOrderly g a
-    → is_small g class ≡ true → front_of a class ≡ spot ∷ subpages →
-    HasNext a class spot.0 spot.1
-front-next g a class spot subpages o small front =
-    spot-next g a class spot.0 spot.1 o small (ap (has_subpage spot.0 spot.1) front ∙ spot-first spot.0 spot.1 subpages)
-
-pub front-gives : (g : Geometry) (a : Arena) (class : ℕ) (spot : ℕ × ℕ) (subpages : List (ℕ × ℕ)) → IsOrderly g a
-    → is_small g class ≡ true → front_of a class ≡ spot ∷ subpages →
-    take_element g a class spot ≡ None → ⊥
-front-gives g a class spot subpages o small front none =
-    let n : HasNext a class spot.0 spot.1 = front-next g a class spot subpages o small front in
-    let both : Some (element_taken g a class spot n.elements n.next) ≡ None = sym (next-taken g a class spot n)
-    ∙ none in
-    cc both
 
 -- an element that is taken leaves the arena in order
 pub take_element-orderly : (g : Geometry) (a : Arena) (class : ℕ) (spot : ℕ × ℕ) (t : Yielded) → IsOrderly g a
@@ -156,18 +111,6 @@ take_run-fronts g a pages what o t e =
     take_run-by g pages what (IsOrderly g) (opened-orderly g) (λ u. length u.2.fronts ≡ class_count g)
     (λ x spot n order here fits. order.fronts) a o t e
 
--- a new subpage gives an element
-pub new-gives : (g : Geometry) (a : Arena) (class : ℕ) → IsOrderly g a → is_small g class ≡ true → (t : Yielded)
-    → take_run g a (subpage_pages g class) (new_use g class) ≡ Some t →
-    take_element g (with_subpage class t) class (t.0, t.1) ≡ None → ⊥
-new-gives g a class o small t e =
-    let b : IsOrderly g (with_subpage class t) = take_subpage-orderly g a class o small t e in
-    let fronts : length t.2.fronts ≡ class_count g =
-    take_run-fronts g a (subpage_pages g class) (new_use g class) o t e in
-    let below : class < length t.2.fronts = omega (arith, small-below g a class o small, fronts, o.fronts) in
-    front-gives g (with_subpage class t) class (t.0, t.1) (front_of t.2 class) b small
-    (front-same t.2 class ((t.0, t.1) ∷ front_of t.2 class) below)
-
 -- ---- a class, and a taking
 
 pub take_small-orderly : (g : Geometry) (a : Arena) (class : ℕ) → IsOrderly g a → is_small g class ≡ true
@@ -198,16 +141,3 @@ take_class-orderly g a class o t e =
     go (Some u) order is =
         let same : (u.0, page_of g * u.1, u.2) ≡ t = cc is in
         subst (λ x. IsOrderly g x.2) same (order u refl)
-
--- a taking leaves the arena in order
-pub take-orderly : (g : Geometry) (number : ℕ) (a : Arena) (class owner : ℕ) → IsOrderly g a → (t : RegionId × Arena)
-    → take g number a class owner ≡ Some t → IsOrderly g t.1
-take-orderly g number a class owner o t e = go (take_class g a class) (λ u. take_class-orderly g a class o u) e
-  where
-    go : (x : Option Yielded) → ((u : Yielded) → x ≡ Some u → IsOrderly g u.2)
-        → option_map (noted_taking number class owner) x ≡ Some t → IsOrderly g t.1
-    go None order is = absurd (cc is)
-    go (Some u) order is =
-        let same : noted_taking number class owner u ≡ t = cc is in
-        subst (λ x. IsOrderly g x.1) same
-        (orderly-same g u.2 (noted_taking number class owner u).1 refl refl refl (order u refl))

@@ -23,7 +23,7 @@ use Rattle.std.proofs.lemmas.List.{length-map}
 use Rattle.arena_laws.specs.Slots.{ArenaHolds}
 use Rattle.arena_laws.specs.Takings.{TakenInOrder}
 use Rattle.arena_laws.proofs.ArenaLaw.{new-holds, after-holds}
-use Rattle.arena_laws.proofs.OrderlyLaw.{out-slot}
+use Rattle.arena_laws.proofs.OutSlots.{out-slot}
 use Rattle.arena_laws.proofs.TakingLaw.{after-numbers}
 use Rattle.history_laws.specs.NoteCounts.{one_if_so}
 use Rattle.pool_table.specs.Hands.{HasTaking, IsPutDown}

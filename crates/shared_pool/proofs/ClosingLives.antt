@@ -229,9 +229,6 @@ module _ {H : Type 0} (stands : List ℕ → Setting → List Noted → H → Ty
       let c = one_is stands l v homes words closed f in omega (arith, a, b, c, born)
 
   module _ (none : HasNoPlace v) (r : RootId) (born : IsBorn (v ∷ []) r) where
-    pub total : ℕ
-    total = total_of r (entries_in (parts_of v))
-
     holds : TotalHolds r (entries_in (parts_of v))
     holds = totals_hold stands l v homes words closed none r (births_counted r born)
 

@@ -39,9 +39,6 @@ none_so false = refl
 
 -- a test of posts weighs as the letters that are sent, and one of fetches as those that are received
 module _ (a b : ℕ) (test : Passing → Bool) (stays : test Stays ≡ false) where
-  tested : Passing → Object → ℕ
-  tested p o = cond {A = ℕ} (test p && same_object (Mail a b) o) 1 0
-
   by_test : (t : Bool) (p : Passing) (o : Object) → test p ≡ t
       → cond {A = ℕ} (test p && same_object (Mail a b) o) 1 0 ≡ cond {A = ℕ} (t && same_object (Mail a b) o) 1 0
   by_test t p o e = ap (λ (u : Bool). cond {A = ℕ} (u && same_object (Mail a b) o) 1 0) e

@@ -98,10 +98,6 @@ pub nothing : (b : Bool) → 0 ≡ cond {A = ℕ} b 0 0
 nothing true = refl
 nothing false = refl
 
-both_true : (b : Bool) → (if b && true then 1 else 0) ≡ cond {A = ℕ} b 1 0
-both_true true = refl
-both_true false = refl
-
 module _ (r : RootId) where
   pub same_cond : (q : RootId) (w : ℕ) → (q.place ≡ r.place → q.generation ≡ r.generation → q ≡ r)
       → cond {A = ℕ} (same_root q r) w 0 ≡ cond {A = ℕ} (is_root r.place r.generation q) w 0

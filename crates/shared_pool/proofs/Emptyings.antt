@@ -24,7 +24,7 @@ use Rattle.arena_laws.proofs.ArenaLaw.{give-holds}
 use Rattle.arena_laws.proofs.CoveredGives.{give-covered}
 use Rattle.arena_laws.proofs.CoveredLaw.{covered-rests}
 use Rattle.arena_laws.proofs.ElementGives.{EachOf-one}
-use Rattle.arena_laws.proofs.OrderlyLaw.{out-slot}
+use Rattle.arena_laws.proofs.OutSlots.{out-slot}
 use Rattle.pool_arena.specs.ArenaStates.{ArenaState, law_of, IsOutOf, Gives, AtRest, without_taking}
 use Rattle.shared_pool.specs.declared.home.Home.{Home}
 use Rattle.shared_pool.specs.declared.home.Home.TheVariants.{Arena, Cache, Bin, Root}
@@ -137,9 +137,6 @@ resting grounds k (x ∷ out) a o none c =
     places (y ∷ ys) all = (all.0.0, places ys all.1)
 
 -- ---- All arenas.
-
-weight : RegionId → Left → ℕ
-weight q x = is_taking q x.0
 
 module _ (n : ℕ) (homes : List (Option Home)) (r : RegionId) (p : Segment) (left : List Left)
     (o : AreOut n homes ((r, p) ∷ left)) where

@@ -57,10 +57,6 @@ pub same_bytes-refl : (xs : List ℕ) → same_bytes xs xs ≡ true
 same_bytes-refl [] = refl
 same_bytes-refl (x ∷ xs) = λ i. eq-eqb x x refl i && same_bytes-refl xs i
 
--- the root's bytes in the law
-bytes_of : RootState → List ℕ
-bytes_of r = take r.capacity r.piece.bytes
-
 module _ (old : PlaceState) (r : RootState) (was : old.present ≡ Some r) (fits : r.capacity ≤ length r.piece.bytes)
   where
     -- a note at a place where a root is present

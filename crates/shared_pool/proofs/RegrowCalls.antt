@@ -98,9 +98,6 @@ geometry s shape = record { least = shape.order_least; most = shape.order_most; 
 module _ {G : Ghosts Home Noted} (l : Layout) (root : RootId) (old new : TableSeat Home G) (section : Section Home)
     (got : GotSection HomeStands l (RootOf root.place) old new section) (setting : Setting)
     (known : (view_of old).setting ≡ Some setting) (has : HasCount root (view_of old)) where
-  abbrev p : ℕ
-  p = root.place
-
   abbrev measures : List ℕ
   measures = measures_of l.shape (RootOf root.place)
 
