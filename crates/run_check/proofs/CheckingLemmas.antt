@@ -17,7 +17,7 @@ use Rattle.run_check.specs.Checking.{CountsRight, NotesRight, AnswersRight}
 use Rattle.pool_law.proofs.HistoryLemmas.{history_of-is}
 use Rattle.run_check.specs.declared.histories.Histories.{Histories}
 use Rattle.object_steps.specs.declared.told.PlaceTold.{PlaceTold}
-use Rattle.run_check.specs.Spotting.{notes_in}
+use Rattle.run_check.specs.ByObject.{notes_in}
 use Rattle.run_check.specs.Breaches.{Breaks}
 use Rattle.run_check.specs.declared.breach.Breach.{Breach}
 use Rattle.run_check.specs.Storing.{history_in, AreHistories}

@@ -4,13 +4,13 @@ use Rattle.std.proofs.lemmas.Bool.{cases_lt}
 use denote.Ref.{Bor}
 use Rattle.pool_law.specs.declared.note.Did.{Did}
 use Rattle.run_check.specs.declared.gathering.HistoryNote.{HistoryNote}
-use Rattle.run_check.specs.Gathering.{spots_behind, left_of, HasNext, IsStuck}
+use Rattle.run_check.specs.Gathering.{notes_data, left_of, HasNext, IsStuck}
 
-pub left-at : (left : List (Bor (List HistoryNote))) (lane : ℕ) (spots : Bor (List HistoryNote)) → lane < length left →
-    spots ≡ get_or left lane spots → left_of left lane ≡ spots_behind spots.now
-left-at [] lane spots there is = absurd (omega (arith, there))
-left-at (x ∷ left) zero spots there is = ap (λ (s : Bor (List HistoryNote)). spots_behind s.now) (sym is)
-left-at (x ∷ left) (suc lane) spots there is = left-at left lane spots (omega (arith, there)) is
+pub left-at : (left : List (Bor (List HistoryNote))) (lane : ℕ) (notes : Bor (List HistoryNote)) → lane < length left →
+    notes ≡ get_or left lane notes → left_of left lane ≡ notes_data notes.now
+left-at [] lane notes there is = absurd (omega (arith, there))
+left-at (x ∷ left) zero notes there is = ap (λ (s : Bor (List HistoryNote)). notes_data s.now) (sym is)
+left-at (x ∷ left) (suc lane) notes there is = left-at left lane notes (omega (arith, there)) is
 
 pub left-past : (left : List (Bor (List HistoryNote))) (lane : ℕ) → length left ≤ lane → left_of left lane ≡ []
 left-past [] lane past = refl

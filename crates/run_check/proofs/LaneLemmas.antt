@@ -8,7 +8,7 @@ use Rattle.pool_law.specs.declared.note.Note.{Note}
 use Rattle.pool_law.specs.declared.run.LaneLog.{LaneLog}
 use Rattle.pool_law.specs.Logs.{Logs, of_lane, entry_of, entries_of}
 use Rattle.pool_law.proofs.HistoryLemmas.{log-past}
-use Rattle.run_check.specs.Spotting.{notes_in, replies_in}
+use Rattle.run_check.specs.ByObject.{notes_in, replies_in}
 
 pub notes-at : (logs : List LaneLog) (k : ℕ) (log : LaneLog) → k < length logs →
     log ≡ get_or logs k log → of_lane (notes_in logs) k ≡ log.notes

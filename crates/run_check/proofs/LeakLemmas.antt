@@ -23,7 +23,7 @@ use Rattle.pool_law.proofs.LogLemmas.{entry-note}
 use Rattle.run_check.specs.declared.histories.Histories.{Histories}
 use Rattle.run_check.specs.declared.tally.Totals.{Totals}
 use Rattle.run_check.specs.declared.tally.Tally.{Tally}
-use Rattle.run_check.specs.Spotting.{notes_in}
+use Rattle.run_check.specs.ByObject.{notes_in}
 use Rattle.run_check.specs.Storing.{history_in, AreHistories}
 use Rattle.run_check.specs.Tallying.{total_sums, IsTally}
 use Rattle.run_check.specs.Reporting.{access_by, accesses_in, kept_by, dropped_by, capacity_by, leak_by, one_leak, leaks_by, leaks_in, all_leaks}

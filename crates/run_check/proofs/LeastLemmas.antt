@@ -8,7 +8,7 @@ use Rattle.std.proofs.lemmas.Bool.{cases_lt}
 use Rattle.pool_law.specs.declared.note.Did.{Did}
 use denote.Ref.{Bor}
 use Rattle.run_check.specs.declared.gathering.HistoryNote.{HistoryNote}
-use Rattle.run_check.specs.Gathering.{spot_data, spots_behind, left_of}
+use Rattle.run_check.specs.Gathering.{note_data, notes_data, left_of}
 use Rattle.run_check.proofs.GatheringLemmas.{left-at, left-past}
 
 -- what holds of each item holds of those before, and of those behind
@@ -29,47 +29,47 @@ abbrev pub Past : ℕ → List (ℕ × Did) → Type 0
 Past n notes = All (λ x. n < x.0) notes
 
 -- one more note
-module _ (number old new : ℕ) (spots : List HistoryNote) (i : ℕ) (spot : HistoryNote) (there : i < length spots)
-    (is : spot ≡ get_or spots i spot) (lesser : new ≤ old) (this : new ≤ spot.number)
-    (one : (new ≡ old) ⊎ (new ≡ spot.number)) where
-  step : spots_behind (take (i + 1) spots) ≡ spots_behind (take i spots) ++ spot_data spot ∷ []
+module _ (number old new : ℕ) (notes : List HistoryNote) (i : ℕ) (note : HistoryNote) (there : i < length notes)
+    (is : note ≡ get_or notes i note) (lesser : new ≤ old) (this : new ≤ note.number)
+    (one : (new ≡ old) ⊎ (new ≡ note.number)) where
+  step : notes_data (take (i + 1) notes) ≡ notes_data (take i notes) ++ note_data note ∷ []
   step =
-      ap spots_behind (take_more spots i spot there ∙ ap (λ (s : HistoryNote). take i spots ++ s ∷ []) (sym is))
-      ∙ map-append spot_data (take i spots) (spot ∷ [])
+      ap notes_data (take_more notes i note there ∙ ap (λ (s : HistoryNote). take i notes ++ s ∷ []) (sym is))
+      ∙ map-append note_data (take i notes) (note ∷ [])
 
-  pub least-more : FromOn old (spots_behind (take i spots)) → FromOn new (spots_behind (take (i + 1) spots))
+  pub least-more : FromOn old (notes_data (take i notes)) → FromOn new (notes_data (take (i + 1) notes))
   least-more before =
       All-same (λ (x : ℕ × Did). new ≤ x.0) _ _ step
-      (All-push (λ (x : ℕ × Did). new ≤ x.0) (spots_behind (take i spots)) (spot_data spot)
+      (All-push (λ (x : ℕ × Did). new ≤ x.0) (notes_data (take i notes)) (note_data note)
       (All-weaker (λ (x : ℕ × Did). old ≤ x.0) (λ (x : ℕ × Did). new ≤ x.0) (λ x le. omega (arith, le, lesser))
-      (spots_behind (take i spots)) before)
+      (notes_data (take i notes)) before)
       this)
 
-  pub there-more : (old < number → Past old (spots_behind (take i spots)) → ⊥) → new < number →
-      Past new (spots_behind (take (i + 1) spots)) → ⊥
+  pub there-more : (old < number → Past old (notes_data (take i notes)) → ⊥) → new < number →
+      Past new (notes_data (take (i + 1) notes)) → ⊥
   there-more before below past =
       let P : ℕ × Did → Type 0 = λ x. new < x.0 in
-      let all : All P (spots_behind (take i spots) ++ spot_data spot ∷ []) = All-same P _ _ (sym step) past in
+      let all : All P (notes_data (take i notes) ++ note_data note ∷ []) = All-same P _ _ (sym step) past in
       ⊎_elim
       (λ same.
       before (omega (arith, same, below))
-      (All-weaker P (λ (x : ℕ × Did). old < x.0) (λ x lt. omega (arith, lt, same)) (spots_behind (take i spots))
-      (All-before P (spots_behind (take i spots)) (spot_data spot ∷ []) all)))
+      (All-weaker P (λ (x : ℕ × Did). old < x.0) (λ x lt. omega (arith, lt, same)) (notes_data (take i notes))
+      (All-before P (notes_data (take i notes)) (note_data note ∷ []) all)))
       (λ same.
       omega (
         arith,
         same,
-        All-head P (spot_data spot) [] (All-behind P (spots_behind (take i spots)) (spot_data spot ∷ []) all),
+        All-head P (note_data note) [] (All-behind P (notes_data (take i notes)) (note_data note ∷ []) all),
       ))
       one
 
 -- one more lane
-module _ (number old new : ℕ) (left : List (Bor (List HistoryNote))) (i : ℕ) (spots : Bor (List HistoryNote))
-    (there : i < length left) (is : spots ≡ get_or left i spots) (lesser : new ≤ old)
-    (least : FromOn new (spots_behind spots.now))
-    (this : new < old → Past new (spots_behind spots.now) → ⊥) where
-  here : left_of left i ≡ spots_behind spots.now
-  here = left-at left i spots there is
+module _ (number old new : ℕ) (left : List (Bor (List HistoryNote))) (i : ℕ) (notes : Bor (List HistoryNote))
+    (there : i < length left) (is : notes ≡ get_or left i notes) (lesser : new ≤ old)
+    (least : FromOn new (notes_data notes.now))
+    (this : new < old → Past new (notes_data notes.now) → ⊥) where
+  here : left_of left i ≡ notes_data notes.now
+  here = left-at left i notes there is
 
   pub lanes-least : ((lane : ℕ) → lane < i → FromOn old (left_of left lane)) → (lane : ℕ) → lane < i + 1 →
       FromOn new (left_of left lane)

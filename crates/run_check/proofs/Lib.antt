@@ -2,7 +2,7 @@ mod MergeLemmas
 mod GatheringLemmas
 mod LaneLemmas
 mod KeyLemmas
-mod SpotLemmas
+mod ObjectNoteLemmas
 mod MergingLemmas
 mod LeastLemmas
 mod FrontLemmas

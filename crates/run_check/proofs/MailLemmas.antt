@@ -15,8 +15,8 @@ use Rattle.pool_law.specs.Mails.{gone, come, posted, fetched, MailHolds}
 use Rattle.pool_law.proofs.SameLemmas.{and-first, and-second, same_parcel-is, same_parcel-refl}
 use Rattle.pool_law.proofs.ListLemmas.{front-from-places}
 use Rattle.run_check.specs.declared.mails.Passed.{Passed}
-use Rattle.run_check.specs.declared.spots.Spots.{Spots}
-use Rattle.run_check.specs.Spotting.{spots_at, laned, AreSpots}
+use Rattle.run_check.specs.declared.object_notes.ObjectNotes.{ObjectNotes}
+use Rattle.run_check.specs.ByObject.{notes_at, laned, AreByObject}
 use Rattle.run_check.specs.Mailing.{sent_among, received_among, passed_data, all_passed, IsInTurn, IsOfPost, Passes, FailsAt, IsHeldMail}
 use Rattle.run_check.specs.Fronts.{MailHoldsTo, IsBrokenAt}
 
@@ -231,28 +231,29 @@ here-of posts fetches k d in_posts in_fetches same =
 
 -- ---- A mail of the logs.
 
-pub laned-get : (lanes : List Spots) (object : Object) (k : ℕ) (s : Spots) → k < length lanes → s ≡ get_or lanes k s →
-    laned lanes object k ≡ spots_at s object
+pub laned-get : (lanes : List ObjectNotes) (object : Object) (k : ℕ) (s : ObjectNotes) → k < length lanes →
+    s ≡ get_or lanes k s →
+    laned lanes object k ≡ notes_at s object
 laned-get [] object k s there is = absurd (omega (arith, there))
-laned-get (x ∷ lanes) object zero s there is = ap (λ (y : Spots). spots_at y object) (sym is)
+laned-get (x ∷ lanes) object zero s there is = ap (λ (y : ObjectNotes). notes_at y object) (sym is)
 laned-get (x ∷ lanes) object (suc k) s there is = laned-get lanes object k s (omega (arith, there)) is
 
-pub laned-past : (lanes : List Spots) (object : Object) (k : ℕ) → length lanes ≤ k → laned lanes object k ≡ []
+pub laned-past : (lanes : List ObjectNotes) (object : Object) (k : ℕ) → length lanes ≤ k → laned lanes object k ≡ []
 laned-past [] object k past = refl
 laned-past (x ∷ lanes) object zero past = absurd (omega (arith, past))
 laned-past (x ∷ lanes) object (suc k) past = laned-past lanes object k (omega (arith, past))
 
 -- what is read of a mail decides whether it holds
-module _ (shape : Shape) (lanes : List Spots) (logs : Logs) (spots : AreSpots lanes logs) (object : Object)
+module _ (shape : Shape) (lanes : List ObjectNotes) (logs : Logs) (theirs : AreByObject lanes logs) (object : Object)
     (sender receiver : ℕ) (is : object ≡ Mail sender receiver) (posts fetches : List Passed)
     (sent : all_passed posts ≡ sent_among (laned lanes object sender))
     (received : all_passed fetches ≡ received_among (laned lanes object receiver)) where
   posts_are : all_passed posts ≡ posted object (of_lane logs sender)
-  posts_are = sent ∙ ap sent_among (spots object sender) ∙ posted-among object (of_lane logs sender)
+  posts_are = sent ∙ ap sent_among (theirs object sender) ∙ posted-among object (of_lane logs sender)
 
   fetches_are : all_passed fetches ≡ fetched object (of_lane logs receiver)
   fetches_are =
-      received ∙ ap received_among (spots object receiver) ∙ fetched-among object (of_lane logs receiver)
+      received ∙ ap received_among (theirs object receiver) ∙ fetched-among object (of_lane logs receiver)
 
   to-held : MailHolds object (of_lane logs sender) (of_lane logs receiver) → IsHeldMail logs object
   to-held =

@@ -7,7 +7,7 @@ use Rattle.pool_law.specs.Logs.{History, numbered}
 use Rattle.run_check.specs.declared.gathering.HistoryNote.{HistoryNote}
 use Rattle.run_check.specs.declared.merging.Done.{Done}
 use Rattle.run_check.specs.Merging.{dones_in}
-use Rattle.run_check.specs.Gathering.{spot_data, spots_behind, left_of, AreNumbered, HasNext, IsStuck}
+use Rattle.run_check.specs.Gathering.{note_data, notes_data, left_of, AreNumbered, HasNext, IsStuck}
 use Rattle.std.proofs.lemmas.List.{length-append, length-map, map-append, take_all}
 use Rattle.std.proofs.lemmas.Bool.Decides.{nat_tests}
 use Rattle.run_check.proofs.GatheringLemmas.{left-at}
@@ -25,41 +25,41 @@ next-next a b = grind (arith, nat_tests)
 -- a lane has one note less
 left-set : (left : List (Bor (List HistoryNote))) (lane : ℕ) (new : Bor (List HistoryNote)) → lane < length left → (l :
     ℕ) →
-    left_of (set left lane new) l ≡ without_first lane (spots_behind new.now) (left_of left) l
+    left_of (set left lane new) l ≡ without_first lane (notes_data new.now) (left_of left) l
 left-set [] lane new there l = absurd (omega (arith, there))
 left-set (x ∷ left) zero new there zero = refl
 left-set (x ∷ left) zero new there (suc l) =
-    sym (ap (λ (b : Bool). if b then spots_behind new.now else left_of left l) (zero-next l))
+    sym (ap (λ (b : Bool). if b then notes_data new.now else left_of left l) (zero-next l))
 left-set (x ∷ left) (suc lane) new there zero =
-    sym (ap (λ (b : Bool). if b then spots_behind new.now else spots_behind x.now) (next-zero lane))
+    sym (ap (λ (b : Bool). if b then notes_data new.now else notes_data x.now) (next-zero lane))
 left-set (x ∷ left) (suc lane) new there (suc l) =
     left-set left lane new (omega (arith, there)) l
-    ∙ sym (ap (λ (b : Bool). if b then spots_behind new.now else left_of left l) (next-next lane l))
+    ∙ sym (ap (λ (b : Bool). if b then notes_data new.now else left_of left l) (next-next lane l))
 
 -- whether a lane has a note
-pub no-spots : (xs : List HistoryNote) → (length xs == 0) ≡ true → spots_behind xs ≡ []
-no-spots [] e = refl
-no-spots (x ∷ xs) e = absurd (omega (arith, eqb-true (length (x ∷ xs)) 0 e))
+pub no-notes : (xs : List HistoryNote) → (length xs == 0) ≡ true → notes_data xs ≡ []
+no-notes [] e = refl
+no-notes (x ∷ xs) e = absurd (omega (arith, eqb-true (length (x ∷ xs)) 0 e))
 
-pub some-spots : (xs : List HistoryNote) → (length xs == 0) ≡ false → spots_behind xs ≡ [] → ⊥
-some-spots [] e none = cc e
-some-spots (x ∷ xs) e none = cc none
+pub some-notes : (xs : List HistoryNote) → (length xs == 0) ≡ false → notes_data xs ≡ [] → ⊥
+some-notes [] e none = cc e
+some-notes (x ∷ xs) e none = cc none
 
 -- how many notes are left
 abbrev pub left_total : List (Bor (List HistoryNote)) → ℕ
 left_total [] = 0
 left_total (x ∷ left) = length x.now + left_total left
 
-pub left_total-set : (left : List (Bor (List HistoryNote))) (lane : ℕ) (spots new : Bor (List HistoryNote)) → lane <
+pub left_total-set : (left : List (Bor (List HistoryNote))) (lane : ℕ) (notes new : Bor (List HistoryNote)) → lane <
     length left →
-    spots ≡ get_or left lane spots → length new.now < length spots.now →
+    notes ≡ get_or left lane notes → length new.now < length notes.now →
     left_total (set left lane new) < left_total left
-left_total-set [] lane spots new there is less = absurd (omega (arith, there))
-left_total-set (x ∷ left) zero spots new there is less =
-    let same : length spots.now ≡ length x.now = ap (λ (s : Bor (List HistoryNote)). length s.now) is in
+left_total-set [] lane notes new there is less = absurd (omega (arith, there))
+left_total-set (x ∷ left) zero notes new there is less =
+    let same : length notes.now ≡ length x.now = ap (λ (s : Bor (List HistoryNote)). length s.now) is in
     omega (arith, same, less)
-left_total-set (x ∷ left) (suc lane) spots new there is less =
-    omega (arith, left_total-set left lane spots new (omega (arith, there)) is less)
+left_total-set (x ∷ left) (suc lane) notes new there is less =
+    omega (arith, left_total-set left lane notes new (omega (arith, there)) is less)
 
 -- a history is merged so far, and what is left goes on with this number
 pub record SoFar (all left : ℕ → List (ℕ × Did)) (h : History) (number : ℕ) : Type 0 where
@@ -101,38 +101,38 @@ dones-pushed : (old new : List Done) (done : Done) → new ≡ old ++ done ∷ [
     dones_in new ≡ dones_in old ++ (done.lane, done.did.now) ∷ []
 dones-pushed old new done is = ap dones_in is ∙ map-append (λ (d : Done). (d.lane, d.did.now)) old (done ∷ [])
 
-shorter : (spots others : List HistoryNote) (first : HistoryNote) → spots_behind spots ≡ spot_data first ∷ spots_behind
+shorter : (notes others : List HistoryNote) (first : HistoryNote) → notes_data notes ≡ note_data first ∷ notes_data
     others →
-    length others < length spots
-shorter spots others first is =
-    let all : length (spots_behind spots) ≡ suc (length (spots_behind others)) = ap length is in
-    omega (arith, all, length-map spots spot_data, length-map others spot_data)
+    length others < length notes
+shorter notes others first is =
+    let all : length (notes_data notes) ≡ suc (length (notes_data others)) = ap length is in
+    omega (arith, all, length-map notes note_data, length-map others note_data)
 
 -- the first note of the lane that has the number
-first-numbered : (left : ℕ → List (ℕ × Did)) (lane number : ℕ) (spots others : List HistoryNote) (first : HistoryNote) →
-    HasNext number (left lane) → left lane ≡ spots_behind spots →
-    spots_behind spots ≡ spot_data first ∷ spots_behind others →
-    left lane ≡ (number, first.did.now) ∷ spots_behind others
-first-numbered left lane number spots others first has mine is =
+first-numbered : (left : ℕ → List (ℕ × Did)) (lane number : ℕ) (notes others : List HistoryNote) (first : HistoryNote) →
+    HasNext number (left lane) → left lane ≡ notes_data notes →
+    notes_data notes ≡ note_data first ∷ notes_data others →
+    left lane ≡ (number, first.did.now) ∷ notes_data others
+first-numbered left lane number notes others first has mine is =
     let same : first.number ≡ number = subst (λ (xs : List (ℕ × Did)). HasNext number xs) (mine ∙ is) has in
-    mine ∙ is ∙ ap (λ (n : ℕ). (n, first.did.now) ∷ spots_behind others) same
+    mine ∙ is ∙ ap (λ (n : ℕ). (n, first.did.now) ∷ notes_data others) same
 
-pub none-first : (left : List (Bor (List HistoryNote))) (lane number : ℕ) (spots : Bor (List HistoryNote)) →
-    HasNext number (left_of left lane) → lane < length left → spots ≡ get_or left lane spots →
-    spots_behind spots.now ≡ [] → ⊥
-none-first left lane number spots has there mine none =
-    subst (λ (xs : List (ℕ × Did)). HasNext number xs) (left-at left lane spots there mine ∙ none) has
+pub none-first : (left : List (Bor (List HistoryNote))) (lane number : ℕ) (notes : Bor (List HistoryNote)) →
+    HasNext number (left_of left lane) → lane < length left → notes ≡ get_or left lane notes →
+    notes_data notes.now ≡ [] → ⊥
+none-first left lane number notes has there mine none =
+    subst (λ (xs : List (ℕ × Did)). HasNext number xs) (left-at left lane notes there mine ∙ none) has
 
 -- the part of a list behind its first
 pub part-is : (xs : List HistoryNote) → take (length xs - 1) (drop 1 xs) ≡ drop 1 xs
 part-is xs = take_all (length xs - 1) (drop 1 xs) (omega (arith, length-drop 1 xs))
 
-pub part-shorter : (spots : List HistoryNote) (first : HistoryNote) →
-    spots_behind spots ≡ spot_data first ∷ spots_behind (drop 1 spots) →
-    length (take (length spots - 1) (drop 1 spots)) < length spots
-part-shorter spots first is =
-    let same : length (take (length spots - 1) (drop 1 spots)) ≡ length (drop 1 spots) = ap length (part-is spots) in
-    omega (arith, same, shorter spots (drop 1 spots) first is)
+pub part-shorter : (notes : List HistoryNote) (first : HistoryNote) →
+    notes_data notes ≡ note_data first ∷ notes_data (drop 1 notes) →
+    length (take (length notes - 1) (drop 1 notes)) < length notes
+part-shorter notes first is =
+    let same : length (take (length notes - 1) (drop 1 notes)) ≡ length (drop 1 notes) = ap length (part-is notes) in
+    omega (arith, same, shorter notes (drop 1 notes) first is)
 
 -- the history with the first note of the lane that has the next number
 -- behind one more the next number is one more than how many there are
@@ -144,21 +144,21 @@ numbered-next old pushed done number count is push size =
     omega (arith, is, many, longer, size)
 
 pub so-far-next : (all : ℕ → List (ℕ × Did)) (left : List (Bor (List HistoryNote))) (lane number next : ℕ)
-    (spots new : Bor (List HistoryNote)) (first : HistoryNote) (old pushed : List Done) (done : Done) →
+    (notes new : Bor (List HistoryNote)) (first : HistoryNote) (old pushed : List Done) (done : Done) →
     SoFar all (left_of left) (dones_in old) number → HasNext number (left_of left lane) → lane < length left →
-    spots ≡ get_or left lane spots → spots_behind spots.now ≡ spot_data first ∷ spots_behind (drop 1 spots.now) →
-    new.now ≡ drop 1 spots.now → pushed ≡ old ++ done ∷ [] → done.lane ≡ lane → done.did.now ≡ first.did.now →
+    notes ≡ get_or left lane notes → notes_data notes.now ≡ note_data first ∷ notes_data (drop 1 notes.now) →
+    new.now ≡ drop 1 notes.now → pushed ≡ old ++ done ∷ [] → done.lane ≡ lane → done.did.now ≡ first.did.now →
     next ≡ number + 1 → SoFar all (left_of (set left lane new)) (dones_in pushed) next
-so-far-next all left lane number next spots new first old pushed done s has there is mine part push of did later =
-    let here : left_of left lane ≡ spots_behind spots.now = left-at left lane spots there is in
-    let first_is : left_of left lane ≡ (number, first.did.now) ∷ spots_behind (drop 1 spots.now) =
-    first-numbered (left_of left) lane number spots.now (drop 1 spots.now) first has here mine in
+so-far-next all left lane number next notes new first old pushed done s has there is mine part push of did later =
+    let here : left_of left lane ≡ notes_data notes.now = left-at left lane notes there is in
+    let first_is : left_of left lane ≡ (number, first.did.now) ∷ notes_data (drop 1 notes.now) =
+    first-numbered (left_of left) lane number notes.now (drop 1 notes.now) first has here mine in
     let more : SoFar all (left_of (set left lane new)) (dones_in old ++ (lane, first.did.now) ∷ []) (number + 1) =
     so-far-more all (left_of left) (left_of (set left lane new)) (dones_in old) number lane first.did.now
-    (spots_behind (drop 1 spots.now)) s first_is
+    (notes_data (drop 1 notes.now)) s first_is
     (λ l.
     left-set left lane new there l
-    ∙ ap (λ (xs : List HistoryNote). without_first lane (spots_behind xs) (left_of left) l) part) in
+    ∙ ap (λ (xs : List HistoryNote). without_first lane (notes_data xs) (left_of left) l) part) in
     let history : dones_in pushed ≡ dones_in old ++ (lane, first.did.now) ∷ [] =
     dones-pushed old pushed done push ∙ (λ i. dones_in old ++ (of i, did i) ∷ []) in
     subst (λ (h : History). SoFar all (left_of (set left lane new)) h next) (sym history)

@@ -20,7 +20,7 @@ use Rattle.pool_law.proofs.SameLemmas.{same_root-is}
 use Rattle.run_check.specs.declared.tally.Sums.{Sums}
 use Rattle.run_check.specs.declared.tally.Tally.{Tally}
 use Rattle.run_check.specs.declared.tally.Totals.{Totals}
-use Rattle.run_check.specs.Spotting.{notes_in}
+use Rattle.run_check.specs.ByObject.{notes_in}
 use Rattle.run_check.specs.Tallying.{no_sums, more_births, sums_step, no_totals, plus, sums_in, sums_after, sums_from, total_sums, others_sum, AreAtMost, TotalsAtMost, IsTally}
 
 pub same-sums : {a b : Sums} → a.births ≡ b.births → a.borns ≡ b.borns → a.retains ≡ b.retains →

@@ -10,7 +10,7 @@ use Rattle.pool_law.specs.Counts.{count_in, count_over, is_birth, TotalHolds}
 use Rattle.pool_law.specs.Legal.{one_if}
 use Rattle.run_check.specs.declared.tally.Totals.{Totals}
 use Rattle.run_check.specs.declared.tally.Tally.{Tally}
-use Rattle.run_check.specs.Spotting.{notes_in}
+use Rattle.run_check.specs.ByObject.{notes_in}
 use Rattle.run_check.specs.Tallying.{total_sums, IsTally, AreTotals, EachHolds}
 use Rattle.run_check.proofs.TallyLemmas.{counted_over, totals-counted}
 

@@ -6,12 +6,12 @@ use denote.Ref.{Bor}
 use Rattle.run_check.specs.declared.gathering.HistoryNote.{HistoryNote}
 
 -- a note's number, and what was done
-abbrev pub spot_data : HistoryNote → ℕ × Did
-spot_data spot = (spot.number, spot.did.now)
+abbrev pub note_data : HistoryNote → ℕ × Did
+note_data note = (note.number, note.did.now)
 
 -- the notes, one after another
-abbrev pub spots_behind : List HistoryNote → List (ℕ × Did)
-spots_behind spots = map spot_data spots
+abbrev pub notes_data : List HistoryNote → List (ℕ × Did)
+notes_data notes = map note_data notes
 
 -- what is left of each lane is what a history from this number on has of it
 abbrev pub AreNumbered : ℕ → (ℕ → List (ℕ × Did)) → History → Type 0
@@ -20,8 +20,8 @@ AreNumbered k left h = (lane : ℕ) → left lane ≡ numbered lane k h
 -- the notes of a lane, of which there may be none
 abbrev pub left_of : List (Bor (List HistoryNote)) → ℕ → List (ℕ × Did)
 left_of [] lane = []
-left_of (spots ∷ rest) zero = spots_behind spots.now
-left_of (spots ∷ rest) (suc lane) = left_of rest lane
+left_of (notes ∷ rest) zero = notes_data notes.now
+left_of (notes ∷ rest) (suc lane) = left_of rest lane
 
 -- the first of these notes has this number
 abbrev pub HasNext : ℕ → List (ℕ × Did) → Type 0

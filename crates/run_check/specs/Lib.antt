@@ -1,7 +1,7 @@
 pub mod Gathering
 pub mod Fitting
 pub mod Keying
-pub mod Spotting
+pub mod ByObject
 pub mod Merging
 pub mod Mailing
 pub mod Storing

@@ -6,7 +6,7 @@ use Rattle.pool_law.specs.declared.run.Shape.{Shape}
 use Rattle.pool_law.specs.LaneLaw.{IsLaneLog}
 use Rattle.pool_law.specs.Logs.{of_lane, entries_of}
 use Rattle.lane_reader.specs.Unlike.{IsUnlikeAt}
-use Rattle.run_check.specs.Spotting.{notes_in, replies_in}
+use Rattle.run_check.specs.ByObject.{notes_in, replies_in}
 use Rattle.run_check.specs.declared.breach.NoteSpot.{NoteSpot}
 
 -- a law is kept by what stands before this place, and not by that together with what stands there

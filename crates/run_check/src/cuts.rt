@@ -8,7 +8,7 @@ ghost use Rattle.pool_law.specs.Limits.{geometry_of};
 ghost use Rattle.pool_law.specs.Logs.{of_lane, entries_of};
 ghost use Rattle.run_check.specs.Cutting.{AreCuts, AreLaneLogs, counts_in, lists_in};
 ghost use Rattle.run_check.specs.Entering.{AreTold};
-ghost use Rattle.run_check.specs.Spotting.{notes_in};
+ghost use Rattle.run_check.specs.ByObject.{notes_in};
 
 use crate::entries::told_of_lanes;
 use crate::fitting::all_are_commands;

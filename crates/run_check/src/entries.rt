@@ -4,7 +4,7 @@ ghost use Rattle.std.specs.Prelude.{◌≡◌, ◌-◌, ℕ, length, map, slice_
 ghost use Rattle.pool_law.specs.declared.run.Shape.{Shape};
 ghost use Rattle.pool_law.specs.Logs.{Logs, of_lane, entry_of};
 ghost use Rattle.lane_reader.specs.Reading.{untold, entry, entries_in};
-ghost use Rattle.run_check.specs.Spotting.{notes_in};
+ghost use Rattle.run_check.specs.ByObject.{notes_in};
 ghost use Rattle.run_check.specs.Storing.{AreHistories};
 ghost use Rattle.run_check.specs.Entering.{IsNotedIn, AreTold};
 

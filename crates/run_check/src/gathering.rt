@@ -1,7 +1,7 @@
 //! The notes of a lane at an object.
 
 ghost use Rattle.std.specs.Prelude.{◌<◌, ◌↔◌, length, IsTrue, MatchOption};
-ghost use Rattle.run_check.specs.Gathering.{spots_behind, left_of, HasNext, IsStuck};
+ghost use Rattle.run_check.specs.Gathering.{notes_data, left_of, HasNext, IsStuck};
 
 use pool_law::Did;
 
@@ -26,11 +26,11 @@ pub fn lane_with(left: &[&[HistoryNote]], number: u64) -> Option<usize>
 }
 
 // Whether the first of these notes has this number.
-fn has_next(spots: &[HistoryNote], number: u64) -> bool
-    ensures { IsTrue result ↔ HasNext number (spots_behind spots.now) }
+fn has_next(notes: &[HistoryNote], number: u64) -> bool
+    ensures { IsTrue result ↔ HasNext number (notes_data notes.now) }
 {
-    if spots.is_empty() {
+    if notes.is_empty() {
         return false;
     }
-    spots[0].number == number
+    notes[0].number == number
 }

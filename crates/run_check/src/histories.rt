@@ -7,7 +7,7 @@ ghost use Rattle.pool_law.specs.Limits.{geometry_of};
 ghost use Rattle.pool_law.specs.Logs.{Logs, dids};
 ghost use Rattle.object_steps.specs.Behind.{dids_behind};
 ghost use Rattle.run_check.specs.Merging.{dones_in};
-ghost use Rattle.run_check.specs.Spotting.{notes_in, AreSpots};
+ghost use Rattle.run_check.specs.ByObject.{notes_in, AreByObject};
 ghost use Rattle.run_check.specs.Fronts.{IsBrokenAt};
 ghost use Rattle.run_check.specs.Storing.{object_history_in, has_object_history, history_in, told_in, AreStories, Keeps, Covers, AreHistories};
 
@@ -16,7 +16,7 @@ mod object;
 use crate::histories::object::object_history_of;
 use crate::keys::object_key;
 use crate::merging::Done;
-use crate::spots::{Spots, spots_of};
+use crate::object_notes::{ObjectNotes, notes_by_object};
 use object_steps::{PlaceTold, Sizes};
 use pool_law::{Did, LaneLog, Note, Object, Shape};
 use std::alloc::{AllocError, Global};
@@ -113,13 +113,13 @@ impl<'a> Histories<'a> {
         alloc: Global,
         shape: &Shape,
         sizes: &Sizes,
-        lanes: &[Spots<'a>],
+        lanes: &[ObjectNotes<'a>],
         object: &Object,
     ) -> Result<Option<BrokenAt>, AllocError>
         requires sizes { sizes.now ≡ geometry_of shape.now }
         requires chunks { shape.now.chunks ≤ 2 ^ 16 }
         requires handles { 1 ≤ shape.now.handles }
-        ensures { (logs : Logs) → AreSpots lanes.now logs → AreStories shape.now logs self.old
+        ensures { (logs : Logs) → AreByObject lanes.now logs → AreStories shape.now logs self.old
             → IfOk result (λ broken. MatchOption broken
             (AreStories shape.now logs self.new × Keeps self.old self.new
             × (has_object_history self.new object.now ≡ true))
@@ -147,13 +147,13 @@ impl<'a> Histories<'a> {
         alloc: Global,
         shape: &Shape,
         sizes: &Sizes,
-        lanes: &[Spots<'a>],
+        lanes: &[ObjectNotes<'a>],
         note: &Note,
     ) -> Result<Option<BrokenAt>, AllocError>
         requires sizes { sizes.now ≡ geometry_of shape.now }
         requires chunks { shape.now.chunks ≤ 2 ^ 16 }
         requires handles { 1 ≤ shape.now.handles }
-        ensures { (logs : Logs) → AreSpots lanes.now logs → AreStories shape.now logs self.old
+        ensures { (logs : Logs) → AreByObject lanes.now logs → AreStories shape.now logs self.old
             → IfOk result (λ broken. MatchOption broken
             (AreStories shape.now logs self.new × Keeps self.old self.new
             × Covers self.new (note.now ∷ []))
@@ -179,13 +179,13 @@ impl<'a> Histories<'a> {
         alloc: Global,
         shape: &Shape,
         sizes: &Sizes,
-        lanes: &[Spots<'a>],
+        lanes: &[ObjectNotes<'a>],
         notes: &[Note],
     ) -> Result<Option<BrokenAt>, AllocError>
         requires sizes { sizes.now ≡ geometry_of shape.now }
         requires chunks { shape.now.chunks ≤ 2 ^ 16 }
         requires handles { 1 ≤ shape.now.handles }
-        ensures { (logs : Logs) → AreSpots lanes.now logs → AreStories shape.now logs self.old
+        ensures { (logs : Logs) → AreByObject lanes.now logs → AreStories shape.now logs self.old
             → IfOk result (λ broken. MatchOption broken
             (AreStories shape.now logs self.new × Keeps self.old self.new
             × Covers self.new notes.now)
@@ -214,7 +214,7 @@ impl<'a> Histories<'a> {
             (AreHistories shape.now (notes_in logs.now))
             (λ b. IsBrokenAt shape.now (notes_in logs.now) b.object b.number)) }
     {
-        let lanes = spots_of(alloc, logs)?;
+        let lanes = notes_by_object(alloc, logs)?;
         let mut histories = Histories::new(alloc);
         for log in logs {
             let notes = log.notes.items();

@@ -10,7 +10,7 @@ ghost use Rattle.pool_law.specs.Busy.{BusyHolds};
 ghost use Rattle.pool_law.specs.Counts.{CountsHold, count_in, count_over, is_birth, names_root};
 ghost use Rattle.pool_law.specs.Legal.{AreCommands, LooksHold, others_retains};
 ghost use Rattle.lane_reader.specs.Reading.{entries};
-ghost use Rattle.run_check.specs.Spotting.{notes_in};
+ghost use Rattle.run_check.specs.ByObject.{notes_in};
 ghost use Rattle.run_check.specs.Storing.{history_in};
 ghost use Rattle.run_check.specs.Tallying.{IsTally};
 ghost use Rattle.run_check.specs.Entering.{AreTold};

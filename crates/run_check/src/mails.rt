@@ -6,13 +6,13 @@ ghost use Rattle.pool_law.specs.Same.{same_parcel};
 ghost use Rattle.pool_law.specs.Kinds.{passing};
 ghost use Rattle.pool_law.specs.Logs.{Logs};
 ghost use Rattle.pool_law.specs.Mails.{gone, come};
-ghost use Rattle.run_check.specs.Gathering.{spots_behind};
-ghost use Rattle.run_check.specs.Spotting.{laned, AreSpots};
+ghost use Rattle.run_check.specs.Gathering.{notes_data};
+ghost use Rattle.run_check.specs.ByObject.{laned, AreByObject};
 ghost use Rattle.run_check.specs.Mailing.{sent_among, received_among, all_passed, IsInTurn, IsOfPost, Passes, FailsAt, IsHeldMail};
 ghost use Rattle.run_check.specs.Fronts.{IsBrokenAt};
 
 use crate::gathering::HistoryNote;
-use crate::spots::Spots;
+use crate::object_notes::ObjectNotes;
 use pool_law::{Did, Object, Parcel};
 use std::alloc::{AllocError, Global};
 
@@ -24,14 +24,14 @@ struct Passed {
 }
 
 // One more note at a mail: its parcel, if it is posted.
-fn push_sent(all: &mut Vec<Passed>, spot: &HistoryNote) -> Result<(), AllocError>
+fn push_sent(all: &mut Vec<Passed>, note: &HistoryNote) -> Result<(), AllocError>
     ensures { OnOk result (all_passed all.new.items
-        ≡ all_passed all.old.items ++ gone spot.now.number (passing spot.now.did.now)) }
+        ≡ all_passed all.old.items ++ gone note.now.number (passing note.now.did.now)) }
 {
-    match spot.did {
+    match note.did {
         Did::Post(parcel) => {
             all.push(Passed {
-                number: spot.number,
+                number: note.number,
                 parcel: *parcel,
             })?;
             Ok(())
@@ -41,14 +41,14 @@ fn push_sent(all: &mut Vec<Passed>, spot: &HistoryNote) -> Result<(), AllocError
 }
 
 // One more note at a mail: its parcel, if it is fetched.
-fn push_received(all: &mut Vec<Passed>, spot: &HistoryNote) -> Result<(), AllocError>
+fn push_received(all: &mut Vec<Passed>, note: &HistoryNote) -> Result<(), AllocError>
     ensures { OnOk result (all_passed all.new.items
-        ≡ all_passed all.old.items ++ come spot.now.number (passing spot.now.did.now)) }
+        ≡ all_passed all.old.items ++ come note.now.number (passing note.now.did.now)) }
 {
-    match spot.did {
+    match note.did {
         Did::Fetch(parcel) => {
             all.push(Passed {
-                number: spot.number,
+                number: note.number,
                 parcel: *parcel,
             })?;
             Ok(())
@@ -58,23 +58,23 @@ fn push_received(all: &mut Vec<Passed>, spot: &HistoryNote) -> Result<(), AllocE
 }
 
 // What these notes at a mail post.
-fn sent_in(alloc: Global, spots: &[HistoryNote]) -> Result<Vec<Passed>, AllocError>
-    ensures { IfOk result (λ all. all_passed all.items ≡ sent_among (spots_behind spots.now)) }
+fn sent_in(alloc: Global, notes: &[HistoryNote]) -> Result<Vec<Passed>, AllocError>
+    ensures { IfOk result (λ all. all_passed all.items ≡ sent_among (notes_data notes.now)) }
 {
     let mut all = Vec::new(alloc);
-    for spot in spots {
-        push_sent(&mut all, spot)?;
+    for note in notes {
+        push_sent(&mut all, note)?;
     }
     Ok(all)
 }
 
 // What these notes at a mail fetch.
-fn received_in(alloc: Global, spots: &[HistoryNote]) -> Result<Vec<Passed>, AllocError>
-    ensures { IfOk result (λ all. all_passed all.items ≡ received_among (spots_behind spots.now)) }
+fn received_in(alloc: Global, notes: &[HistoryNote]) -> Result<Vec<Passed>, AllocError>
+    ensures { IfOk result (λ all. all_passed all.items ≡ received_among (notes_data notes.now)) }
 {
     let mut all = Vec::new(alloc);
-    for spot in spots {
-        push_received(&mut all, spot)?;
+    for note in notes {
+        push_received(&mut all, note)?;
     }
     Ok(all)
 }
@@ -82,7 +82,7 @@ fn received_in(alloc: Global, spots: &[HistoryNote]) -> Result<Vec<Passed>, Allo
 // What a lane posts to a mail.
 fn sent_by(
     alloc: Global,
-    lanes: &[Spots],
+    lanes: &[ObjectNotes],
     lane: u32,
     mail: &Object,
 ) -> Result<Vec<Passed>, AllocError>
@@ -100,7 +100,7 @@ fn sent_by(
 // What a lane fetches from a mail.
 fn received_by(
     alloc: Global,
-    lanes: &[Spots],
+    lanes: &[ObjectNotes],
     lane: u32,
     mail: &Object,
 ) -> Result<Vec<Passed>, AllocError>
@@ -176,10 +176,10 @@ fn first_unheld(posts: &[Passed], fetches: &[Passed]) -> Option<u64>
 /// is the post of its place. None where it holds, or where the object is no mail.
 pub(crate) fn mail_broken_at(
     alloc: Global,
-    lanes: &[Spots],
+    lanes: &[ObjectNotes],
     object: &Object,
 ) -> Result<Option<u64>, AllocError>
-    ensures { (shape : Shape) → (logs : Logs) → AreSpots lanes.now logs
+    ensures { (shape : Shape) → (logs : Logs) → AreByObject lanes.now logs
         → IfOk result (λ found. MatchOption found (IsHeldMail logs object.now)
         (IsBrokenAt shape logs object.now)) }
 {

@@ -2,7 +2,7 @@
 
 ghost use Rattle.std.specs.Prelude.{◌≡◌, [], ◌∷◌, ◌<◌, ◌≤◌, ℕ, drop, length, ◌↔◌, IsTrue, IfOk, MatchOption, MatchResult};
 ghost use Rattle.std.specs.List.{All};
-ghost use Rattle.run_check.specs.Gathering.{AreNumbered, spot_data, spots_behind, left_of};
+ghost use Rattle.run_check.specs.Gathering.{AreNumbered, note_data, notes_data, left_of};
 ghost use Rattle.run_check.specs.Merging.{dones_in};
 ghost use Rattle.run_check.specs.Fronts.{StopsAt};
 
@@ -38,8 +38,8 @@ pub fn merged<'a>(
     let mut dones = Vec::new(alloc);
     let mut number: u64 = 1;
     while let Some(lane) = lane_with(&left, number) {
-        let spots = left[lane];
-        let Some(first) = first_of(spots) else {
+        let notes = left[lane];
+        let Some(first) = first_of(notes) else {
             return Ok(Err(Stop { dones, number }));
         };
         let done = Done {
@@ -47,7 +47,7 @@ pub fn merged<'a>(
             did: first.did,
         };
         dones.push(done)?;
-        left[lane] = &spots[1..];
+        left[lane] = &notes[1..];
         number = dones.len() as u64 + 1;
     }
     if none_left(&left) {
@@ -59,12 +59,12 @@ pub fn merged<'a>(
 }
 
 // The first of these notes.
-fn first_of<'a>(spots: &[HistoryNote<'a>]) -> Option<HistoryNote<'a>>
-    ensures { MatchOption result (spots_behind spots.now ≡ [])
-        (λ s. (spots_behind spots.now ≡ spot_data s ∷ spots_behind (drop 1 spots.now))
-        × (1 ≤ length spots.now)) }
+fn first_of<'a>(notes: &[HistoryNote<'a>]) -> Option<HistoryNote<'a>>
+    ensures { MatchOption result (notes_data notes.now ≡ [])
+        (λ s. (notes_data notes.now ≡ note_data s ∷ notes_data (drop 1 notes.now))
+        × (1 ≤ length notes.now)) }
 {
-    let first = spots.first()?;
+    let first = notes.first()?;
     Some(*first)
 }
 
@@ -72,8 +72,8 @@ fn first_of<'a>(spots: &[HistoryNote<'a>]) -> Option<HistoryNote<'a>>
 fn none_left(left: &[&[HistoryNote]]) -> bool
     ensures { IsTrue result ↔ ((lane : ℕ) → left_of left.now lane ≡ []) }
 {
-    for spots in left {
-        if !spots.is_empty() {
+    for notes in left {
+        if !notes.is_empty() {
             return false;
         }
     }
@@ -81,14 +81,14 @@ fn none_left(left: &[&[HistoryNote]]) -> bool
 }
 
 // The least of this number and those of these notes.
-fn least_of(spots: &[HistoryNote], number: u64) -> u64
+fn least_of(notes: &[HistoryNote], number: u64) -> u64
     ensures most { result ≤ number }
-    ensures least { All (λ x. result ≤ x.0) (spots_behind spots.now) }
-    ensures there { result < number → All (λ x. result < x.0) (spots_behind spots.now) → ⊥ }
+    ensures least { All (λ x. result ≤ x.0) (notes_data notes.now) }
+    ensures there { result < number → All (λ x. result < x.0) (notes_data notes.now) → ⊥ }
 {
     let mut least = number;
-    for spot in spots {
-        least = least.min(spot.number);
+    for note in notes {
+        least = least.min(note.number);
     }
     least
 }
@@ -101,8 +101,8 @@ fn least_left(left: &[&[HistoryNote]], number: u64) -> u64
         → ((lane : ℕ) → All (λ x. result < x.0) (left_of left.now lane)) → ⊥ }
 {
     let mut least = number;
-    for spots in left {
-        least = least_of(spots, least);
+    for notes in left {
+        least = least_of(notes, least);
     }
     least
 }

@@ -7,7 +7,7 @@ ghost use Rattle.pool_law.specs.Logs.{entries_of};
 ghost use Rattle.pool_law.specs.Leaks.{births};
 ghost use Rattle.pool_law.specs.Counts.{TotalHolds, count_over, is_birth, names_root, root_is};
 ghost use Rattle.run_check.specs.Placing.{BreaksAt};
-ghost use Rattle.run_check.specs.Spotting.{notes_in};
+ghost use Rattle.run_check.specs.ByObject.{notes_in};
 ghost use Rattle.run_check.specs.Tallying.{total_sums, IsTally, AreTotals, BirthsHold, NamesHold};
 
 use crate::tally::{Tally, total_of};

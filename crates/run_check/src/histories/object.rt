@@ -4,7 +4,7 @@ ghost use Rattle.std.specs.Prelude.{◌≡◌, ◌≤◌, ◌^◌, false, MatchR
 ghost use Rattle.pool_law.specs.Limits.{geometry_of};
 ghost use Rattle.pool_law.specs.declared.run.Shape.{Shape};
 ghost use Rattle.pool_law.specs.Logs.{Logs, has_history};
-ghost use Rattle.run_check.specs.Spotting.{AreSpots};
+ghost use Rattle.run_check.specs.ByObject.{AreByObject};
 ghost use Rattle.run_check.specs.Fronts.{IsBrokenAt};
 ghost use Rattle.run_check.specs.Storing.{IsObjectHistory};
 
@@ -12,7 +12,7 @@ use super::{ObjectHistory, dids_of};
 use crate::fronts::{accepted_of, broken_number, told_at};
 use crate::mails::mail_broken_at;
 use crate::merging::merged;
-use crate::spots::{Spots, left_at};
+use crate::object_notes::{ObjectNotes, left_at};
 use crate::stands::has_history;
 use object_steps::Sizes;
 use pool_law::{Object, Shape};
@@ -21,11 +21,11 @@ use std::alloc::{AllocError, Global};
 // The history of a mail, which has no history, or the first number at which the mail does not hold.
 fn object_history_of_mail<'a>(
     alloc: Global,
-    lanes: &[Spots<'a>],
+    lanes: &[ObjectNotes<'a>],
     mail: &Object,
 ) -> Result<Result<ObjectHistory<'a>, u64>, AllocError>
     requires { has_history mail.now ≡ false }
-    ensures { (shape : Shape) → (logs : Logs) → AreSpots lanes.now logs → IfOk result (λ told.
+    ensures { (shape : Shape) → (logs : Logs) → AreByObject lanes.now logs → IfOk result (λ told.
         MatchResult told (IsObjectHistory shape logs mail.now) (IsBrokenAt shape logs mail.now)) }
 {
     if let Some(number) = mail_broken_at(alloc, lanes, mail)? {
@@ -43,13 +43,13 @@ pub(crate) fn object_history_of<'a>(
     alloc: Global,
     shape: &Shape,
     sizes: &Sizes,
-    lanes: &[Spots<'a>],
+    lanes: &[ObjectNotes<'a>],
     object: &Object,
 ) -> Result<Result<ObjectHistory<'a>, u64>, AllocError>
     requires sizes { sizes.now ≡ geometry_of shape.now }
     requires chunks { shape.now.chunks ≤ 2 ^ 16 }
     requires handles { 1 ≤ shape.now.handles }
-    ensures { (logs : Logs) → AreSpots lanes.now logs → IfOk result (λ told.
+    ensures { (logs : Logs) → AreByObject lanes.now logs → IfOk result (λ told.
         MatchResult told (IsObjectHistory shape.now logs object.now)
         (IsBrokenAt shape.now logs object.now)) }
 {

@@ -8,7 +8,7 @@ use Rattle.pool_law.specs.Logs.{ToldNote, of_lane, entries_of}
 use Rattle.pool_law.specs.Counts.{CountsHold, TotalHolds, count_in, count_over, is_birth, names_root}
 use Rattle.pool_law.specs.Legal.{LooksHold, others_retains}
 use Rattle.run_check.specs.Placing.{BreaksFirst, DifferAt}
-use Rattle.run_check.specs.Spotting.{notes_in}
+use Rattle.run_check.specs.ByObject.{notes_in}
 use Rattle.run_check.specs.Tallying.{IsTally}
 use Rattle.run_check.specs.Reporting.{all_leaks}
 use Rattle.run_check.specs.declared.tally.Tally.{Tally}

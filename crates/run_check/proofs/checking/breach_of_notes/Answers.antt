@@ -9,7 +9,7 @@ use Rattle.pool_law.specs.Legal.{ends_from}
 use Rattle.pool_law.specs.Logs.{of_lane, note_stands, history_of}
 use Rattle.pool_law.specs.Busy.{BusyHolds}
 use Rattle.run_check.specs.Placing.{BreaksFirst, DifferAt}
-use Rattle.run_check.specs.Spotting.{notes_in}
+use Rattle.run_check.specs.ByObject.{notes_in}
 use Rattle.run_check.specs.Storing.{history_in}
 use Rattle.run_check.proofs.CheckingLemmas.{busy-on, busy-back}
 use Rattle.run_check.proofs.FirstLemmas.{first-same}

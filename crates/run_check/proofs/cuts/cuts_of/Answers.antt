@@ -5,7 +5,7 @@ use Rattle.std.proofs.lemmas.List.{length-map}
 use Rattle.pool_law.specs.declared.run.LaneLog.{LaneLog}
 use Rattle.pool_law.specs.declared.run.Reply.{Reply}
 use Rattle.pool_law.specs.LaneLaw.{replies_in}
-use Rattle.run_check.specs.Spotting.{notes_in}
+use Rattle.run_check.specs.ByObject.{notes_in}
 use Rattle.run_check.proofs.CheckingLemmas.{told-are}
 use Rattle.run_check.proofs.CutLemmas.{not-broken}
 use Rattle.run_check.proofs.cuts.cuts_of.Goals as goal

@@ -14,7 +14,7 @@ use Rattle.lane_reader.specs.Cutting.{AreNoteCounts}
 use Rattle.lane_reader.specs.Reading.{entries}
 use Rattle.lane_reader.specs.Unlike.{AreAnswered}
 use Rattle.lane_reader.proofs.WholeLemmas.{answered-lengths}
-use Rattle.run_check.specs.Spotting.{notes_in}
+use Rattle.run_check.specs.ByObject.{notes_in}
 use Rattle.run_check.specs.Cutting.{lists_in}
 use Rattle.run_check.proofs.CutLemmas.{counts-further, cuts-further, lane-replies, lists-get, log-answered}
 use Rattle.run_check.proofs.cuts.cuts_told.Goals as goal

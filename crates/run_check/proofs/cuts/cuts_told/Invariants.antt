@@ -3,7 +3,7 @@ use Rattle.pool_law.specs.declared.run.Answered.{Answered}
 use Rattle.pool_law.specs.LaneLaw.{IsLaneLog, note_counts, replies_in}
 use Rattle.pool_law.specs.Logs.{of_lane, entries_of}
 use Rattle.run_check.specs.Cutting.{AreCuts, counts_in, lists_in}
-use Rattle.run_check.specs.Spotting.{notes_in}
+use Rattle.run_check.specs.ByObject.{notes_in}
 use Rattle.run_check.proofs.cuts.cuts_told.Given as goal
 
 abbrev pub invariant-loop-lane : goal.invariant-loop-lane

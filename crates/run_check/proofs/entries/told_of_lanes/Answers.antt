@@ -5,7 +5,7 @@ use Rattle.pool_law.specs.declared.note.Note.{Note}
 use Rattle.pool_law.specs.declared.run.LaneLog.{LaneLog}
 use Rattle.pool_law.specs.Logs.{of_lane, entry_of}
 use Rattle.lane_reader.specs.Reading.{entries_in}
-use Rattle.run_check.specs.Spotting.{notes_in}
+use Rattle.run_check.specs.ByObject.{notes_in}
 use Rattle.run_check.specs.Entering.{IsToldOf}
 use Rattle.run_check.proofs.LaneLemmas.{notes-at, zip-push}
 use Rattle.run_check.proofs.entries.told_of_lanes.Goals as goal

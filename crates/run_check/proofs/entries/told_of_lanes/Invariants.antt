@@ -1,7 +1,7 @@
 use Rattle.std.proofs.Common.{take}
 use Rattle.std.specs.List.{AllZip}
 use Rattle.pool_law.specs.declared.run.Shape.{Shape}
-use Rattle.run_check.specs.Spotting.{notes_in}
+use Rattle.run_check.specs.ByObject.{notes_in}
 use Rattle.run_check.specs.Storing.{AreHistories}
 use Rattle.run_check.specs.Entering.{IsToldOf}
 use Rattle.run_check.proofs.entries.told_of_lanes.Given as goal

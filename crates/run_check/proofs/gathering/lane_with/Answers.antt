@@ -1,7 +1,7 @@
 use Rattle.std.proofs.Common.{rules, ◌≡◌, ℕ, ◌<◌, List, length, sym, subst, below_more, ◌∙◌}
 use Rattle.std.proofs.lemmas.Bool.{false≢true}
 use Rattle.pool_law.specs.declared.note.Did.{Did}
-use Rattle.run_check.specs.Gathering.{spots_behind, left_of, HasNext}
+use Rattle.run_check.specs.Gathering.{notes_data, left_of, HasNext}
 use Rattle.run_check.proofs.GatheringLemmas.{left-at, none-has}
 use Rattle.run_check.proofs.gathering.lane_with.Goals as goal
 
@@ -9,7 +9,7 @@ pub returns-then-has_next : goal.returns-then-has_next
 returns-then-has_next c =
     let left = c.args.left.now in
     let there : c.loop-lane.lane < length left = search rules in
-    let here : left_of left c.loop-lane.lane ≡ spots_behind c.index-left-lane.result.now =
+    let here : left_of left c.loop-lane.lane ≡ notes_data c.index-left-lane.result.now =
     left-at left c.loop-lane.lane c.index-left-lane.result there c.index-left-lane.is in (
       subst (λ (xs : List (ℕ × Did)). HasNext c.args.number xs) (sym here) (c.has_next.ensures.0 c.if-has_next.true),
       there,
@@ -19,7 +19,7 @@ pub loop-lane-preserved : goal.loop-lane-preserved
 loop-lane-preserved c =
     let left = c.args.left.now in
     let there : c.loop-lane.lane < length left = search rules in
-    let here : left_of left c.loop-lane.lane ≡ spots_behind c.index-left-lane.result.now =
+    let here : left_of left c.loop-lane.lane ≡ notes_data c.index-left-lane.result.now =
     left-at left c.loop-lane.lane c.index-left-lane.result there c.index-left-lane.is in
     below_more
     (λ (k : ℕ). HasNext c.args.number (left_of left k) → ⊥)

@@ -3,7 +3,7 @@ use Rattle.std.specs.Prelude.{IsTrue}
 use Rattle.std.specs.List.{list_all}
 use Rattle.pool_law.specs.declared.note.Note.{Note}
 use Rattle.pool_law.specs.Logs.{of_lane, note_stands}
-use Rattle.run_check.specs.Spotting.{notes_in}
+use Rattle.run_check.specs.ByObject.{notes_in}
 use Rattle.run_check.proofs.FirstLemmas.{found-first}
 use Rattle.run_check.proofs.LaneLemmas.{notes-get, each-notes}
 use Rattle.run_check.proofs.lanes.first_astray.Goals as goal

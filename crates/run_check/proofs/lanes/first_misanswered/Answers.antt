@@ -7,8 +7,8 @@ use Rattle.pool_law.specs.LaneLaw.{IsLaneLog}
 use Rattle.pool_law.specs.Legal.{AreCommands}
 use Rattle.pool_law.proofs.LogLemmas.{lane-at}
 use Rattle.lane_reader.specs.Unlike.{IsUnlikeAt}
-use Rattle.run_check.specs.Spotting.{notes_in}
-use Rattle.run_check.specs.Spotting.{replies_in}
+use Rattle.run_check.specs.ByObject.{notes_in}
+use Rattle.run_check.specs.ByObject.{replies_in}
 use Rattle.run_check.proofs.LaneLemmas.{replies-get}
 use Rattle.run_check.proofs.lanes.first_misanswered.Goals as goal
 

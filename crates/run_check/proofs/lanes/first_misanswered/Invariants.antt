@@ -1,8 +1,8 @@
 use Rattle.std.proofs.Common.{ℕ, ◌<◌}
 use Rattle.pool_law.specs.Logs.{of_lane, entries_of}
 use Rattle.pool_law.specs.LaneLaw.{IsLaneLog}
-use Rattle.run_check.specs.Spotting.{notes_in}
-use Rattle.run_check.specs.Spotting.{replies_in}
+use Rattle.run_check.specs.ByObject.{notes_in}
+use Rattle.run_check.specs.ByObject.{replies_in}
 use Rattle.run_check.proofs.lanes.first_misanswered.Given as goal
 
 abbrev pub invariant-loop-lane : goal.invariant-loop-lane

@@ -3,7 +3,7 @@ use Rattle.pool_law.specs.declared.id.RootId.{RootId}
 use Rattle.pool_law.specs.Logs.{ToldNote, of_lane, entries_of}
 use Rattle.pool_law.specs.Counts.{CountsHold}
 use Rattle.lane_reader.specs.Reading.{entries}
-use Rattle.run_check.specs.Spotting.{notes_in}
+use Rattle.run_check.specs.ByObject.{notes_in}
 use Rattle.run_check.proofs.FirstLemmas.{found-first}
 use Rattle.run_check.proofs.LaneLemmas.{each-lane, length-entries}
 use Rattle.run_check.proofs.lanes.first_miscounted.Goals as goal

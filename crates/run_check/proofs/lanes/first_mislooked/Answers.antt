@@ -5,7 +5,7 @@ use Rattle.pool_law.specs.Legal.{LooksHold, others_retains}
 use Rattle.pool_law.proofs.LogLemmas.{entry-note}
 use Rattle.lane_reader.specs.Reading.{entries}
 use Rattle.run_check.specs.Placing.{BreaksAt}
-use Rattle.run_check.specs.Spotting.{notes_in}
+use Rattle.run_check.specs.ByObject.{notes_in}
 use Rattle.run_check.specs.Tallying.{others_sum}
 use Rattle.run_check.proofs.FirstLemmas.{found-first}
 use Rattle.run_check.proofs.LaneLemmas.{each-lane, length-entries}

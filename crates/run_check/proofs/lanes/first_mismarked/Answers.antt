@@ -2,7 +2,7 @@ use Rattle.std.proofs.Common.{rules, ◌≡◌, ℕ, List, sym, subst, below_mor
 use Rattle.pool_law.specs.declared.note.Note.{Note}
 use Rattle.pool_law.specs.Logs.{of_lane}
 use Rattle.pool_law.specs.Busy.{BusyHolds}
-use Rattle.run_check.specs.Spotting.{notes_in}
+use Rattle.run_check.specs.ByObject.{notes_in}
 use Rattle.run_check.specs.Storing.{history_in}
 use Rattle.run_check.proofs.FirstLemmas.{found-first}
 use Rattle.run_check.proofs.LaneLemmas.{notes-get, each-notes}

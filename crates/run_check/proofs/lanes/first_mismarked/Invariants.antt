@@ -1,7 +1,7 @@
 use Rattle.std.proofs.Common.{ℕ, ◌<◌}
 use Rattle.pool_law.specs.Logs.{of_lane}
 use Rattle.pool_law.specs.Busy.{BusyHolds}
-use Rattle.run_check.specs.Spotting.{notes_in}
+use Rattle.run_check.specs.ByObject.{notes_in}
 use Rattle.run_check.specs.Storing.{history_in}
 use Rattle.run_check.proofs.lanes.first_mismarked.Given as goal
 

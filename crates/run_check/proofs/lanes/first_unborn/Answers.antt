@@ -4,7 +4,7 @@ use Rattle.pool_law.specs.declared.note.Note.{Note}
 use Rattle.pool_law.specs.Logs.{ToldNote, of_lane, entry_of, entries_of}
 use Rattle.pool_law.specs.Counts.{count_in, count_over, is_birth, names_root}
 use Rattle.pool_law.proofs.LogLemmas.{entry-note}
-use Rattle.run_check.specs.Spotting.{notes_in}
+use Rattle.run_check.specs.ByObject.{notes_in}
 use Rattle.run_check.specs.Tallying.{total_sums, NamesHold}
 use Rattle.run_check.proofs.FirstLemmas.{found-first, breaks-map}
 use Rattle.run_check.proofs.LaneLemmas.{notes-get, entries-lane, each-lane, length-entries}

@@ -1,6 +1,6 @@
 use Rattle.std.proofs.Common.{◌≡◌, length, get_or, sym, ap, arith, ◌∙◌}
 use Rattle.lane_reader.specs.Reading.{entries_in}
-use Rattle.run_check.specs.Spotting.{notes_in}
+use Rattle.run_check.specs.ByObject.{notes_in}
 use Rattle.run_check.specs.Entering.{IsToldOf}
 use Rattle.run_check.proofs.EnteringLemmas.{told-length, told-get, entries-get}
 use Rattle.run_check.proofs.lanes.log_at.Goals as goal

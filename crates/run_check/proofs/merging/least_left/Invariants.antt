@@ -3,10 +3,10 @@ use Rattle.std.specs.List.{All}
 use Rattle.run_check.specs.Gathering.{left_of}
 use Rattle.run_check.proofs.merging.least_left.Given as goal
 
-abbrev pub invariant-loop-spots : goal.invariant-loop-spots
-invariant-loop-spots l = record {
+abbrev pub invariant-loop-notes : goal.invariant-loop-notes
+invariant-loop-notes l = record {
   most : l.least ≤ l.number;
-  least : (lane : ℕ) → lane < l.spots-index → All (λ x. l.least ≤ x.0) (left_of l.left lane);
+  least : (lane : ℕ) → lane < l.notes-index → All (λ x. l.least ≤ x.0) (left_of l.left lane);
   there : l.least < l.number
-      → ((lane : ℕ) → lane < l.spots-index → All (λ x. l.least < x.0) (left_of l.left lane)) → ⊥;
+      → ((lane : ℕ) → lane < l.notes-index → All (λ x. l.least < x.0) (left_of l.left lane)) → ⊥;
 }

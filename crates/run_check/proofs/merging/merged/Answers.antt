@@ -14,28 +14,28 @@ loop-lane-init c = rw c.new-dones.ensures.items (so-far-none (left_of c.args.lef
 pub returns-in_default-first_of : goal.returns-in_default-first_of
 returns-in_default-first_of c =
     absurd
-    (none-first c.loop-lane.left.items c.in-Some.lane c.loop-lane.number c.index-spots.result.now
+    (none-first c.loop-lane.left.items c.in-Some.lane c.loop-lane.number c.index-notes.result.now
     (rw c.deref.ensures.value at c.in-Some.ensures.0) (rw c.deref.ensures.value at c.in-Some.ensures.1)
-    c.index-spots.ensures c.in_default-first_of.ensures)
+    c.index-notes.ensures c.in_default-first_of.ensures)
 
 pub loop-lane-smaller : goal.loop-lane-smaller
 loop-lane-smaller c =
-    let spots = c.index-spots.result.now in
-    left_total-set c.loop-lane.left.items c.in-Some.lane spots _ (rw c.deref.ensures.value at c.in-Some.ensures.1)
-    c.index-spots.ensures (part-shorter spots.now c.in-Some-first_of.first c.in-Some-first_of.ensures.0)
+    let notes = c.index-notes.result.now in
+    left_total-set c.loop-lane.left.items c.in-Some.lane notes _ (rw c.deref.ensures.value at c.in-Some.ensures.1)
+    c.index-notes.ensures (part-shorter notes.now c.in-Some-first_of.first c.in-Some-first_of.ensures.0)
 
 pub loop-lane-preserved : goal.loop-lane-preserved
 loop-lane-preserved c =
-    let spots = c.index-spots.result.now in
+    let notes = c.index-notes.result.now in
     let size : c.len.result ≡ length c.push.new.self.items = search rules in
     let next : c.len.result + 1 ≡ c.loop-lane.number + 1 =
     numbered-next c.loop-lane.dones.items c.push.new.self.items _ c.loop-lane.number c.len.result
     c.loop-lane.invariant.numbers c.in_ok-push.ensures.items size in
     so-far-next (left_of c.args.left.items) c.loop-lane.left.items c.in-Some.lane c.loop-lane.number
-    (c.len.result + 1) spots _ c.in-Some-first_of.first c.loop-lane.dones.items c.push.new.self.items _
+    (c.len.result + 1) notes _ c.in-Some-first_of.first c.loop-lane.dones.items c.push.new.self.items _
     c.loop-lane.invariant (rw c.deref.ensures.value at c.in-Some.ensures.0)
-    (rw c.deref.ensures.value at c.in-Some.ensures.1) c.index-spots.ensures c.in-Some-first_of.ensures.0
-    (part-is spots.now) c.in_ok-push.ensures.items refl refl next
+    (rw c.deref.ensures.value at c.in-Some.ensures.1) c.index-notes.ensures c.in-Some-first_of.ensures.0
+    (part-is notes.now) c.in_ok-push.ensures.items refl refl next
 
 pub returns : goal.returns
 returns c =

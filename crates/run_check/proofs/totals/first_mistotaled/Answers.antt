@@ -6,7 +6,7 @@ use Rattle.pool_law.specs.declared.note.Note.{Note}
 use Rattle.pool_law.specs.Logs.{of_lane, entry_of}
 use Rattle.pool_law.specs.Counts.{is_birth}
 use Rattle.pool_law.proofs.LogLemmas.{entry-note}
-use Rattle.run_check.specs.Spotting.{notes_in}
+use Rattle.run_check.specs.ByObject.{notes_in}
 use Rattle.run_check.specs.Tallying.{total_sums, AreTotals, BirthsHold}
 use Rattle.run_check.proofs.LaneLemmas.{notes-at, each-notes}
 use Rattle.run_check.proofs.TotalLemmas.{any-over, over-back, totals-on, totals-back}

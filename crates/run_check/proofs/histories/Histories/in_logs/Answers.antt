@@ -2,7 +2,7 @@ use Rattle.std.proofs.Common.{rules, ◌≡◌, ℕ, true, false, List, sym, ap,
 use Rattle.std.specs.Prelude.{is_some}
 use Rattle.pool_law.specs.declared.note.Note.{Note}
 use Rattle.pool_law.specs.Logs.{of_lane}
-use Rattle.run_check.specs.Spotting.{notes_in}
+use Rattle.run_check.specs.ByObject.{notes_in}
 use Rattle.run_check.specs.Storing.{Covers}
 use Rattle.run_check.proofs.LaneLemmas.{notes-at, each-notes}
 use Rattle.run_check.proofs.ObjectHistoryLemmas.{covers-kept, histories-are}

@@ -1,6 +1,6 @@
 use Rattle.std.proofs.Common.{ℕ, ◌<◌}
 use Rattle.pool_law.specs.Logs.{of_lane}
-use Rattle.run_check.specs.Spotting.{notes_in}
+use Rattle.run_check.specs.ByObject.{notes_in}
 use Rattle.run_check.specs.Storing.{AreStories, Covers}
 use Rattle.run_check.proofs.histories.Histories.in_logs.Given as goal
 

@@ -9,9 +9,9 @@ use Rattle.pool_law.specs.declared.run.Answered.{Answered}
 use Rattle.pool_law.specs.Logs.{Logs, of_lane, own}
 use Rattle.lane_reader.specs.Counting.{key_cmp}
 use Rattle.run_check.specs.Keying.{object_key}
-use Rattle.run_check.specs.Gathering.{spots_behind}
+use Rattle.run_check.specs.Gathering.{notes_data}
 use Rattle.run_check.specs.declared.gathering.HistoryNote.{HistoryNote}
-use Rattle.run_check.specs.declared.spots.Spots.{Spots}
+use Rattle.run_check.specs.declared.object_notes.ObjectNotes.{ObjectNotes}
 
 -- the notes of each lane
 abbrev pub notes_in : List LaneLog → Logs
@@ -22,21 +22,21 @@ abbrev pub replies_in : List LaneLog → List (List Answered)
 replies_in logs = map (λ l. l.replies) logs
 
 -- the notes of a list that may be there
-abbrev pub spots_in : Option (Vec HistoryNote Global) → List (ℕ × Did)
-spots_in None = []
-spots_in (Some spots) = spots_behind spots.items
+abbrev pub notes_found : Option (Vec HistoryNote Global) → List (ℕ × Did)
+notes_found None = []
+notes_found (Some notes) = notes_data notes.items
 
 -- the notes of a lane at an object
-abbrev pub spots_at : Spots → Object → List (ℕ × Did)
-spots_at spots object = spots_in (get key_cmp spots.map (object_key object))
+abbrev pub notes_at : ObjectNotes → Object → List (ℕ × Did)
+notes_at by_object object = notes_found (get key_cmp by_object.map (object_key object))
 
 -- what each lane has at an object
-abbrev pub laned : List Spots → Object → ℕ → List (ℕ × Did)
+abbrev pub laned : List ObjectNotes → Object → ℕ → List (ℕ × Did)
 laned [] object lane = []
-laned (s ∷ rest) object zero = spots_at s object
+laned (s ∷ rest) object zero = notes_at s object
 laned (s ∷ rest) object (suc lane) = laned rest object lane
 
 -- these are the notes of each lane, by object
-abbrev pub AreSpots : List Spots → Logs → Type 0
-AreSpots lanes logs =
+abbrev pub AreByObject : List ObjectNotes → Logs → Type 0
+AreByObject lanes logs =
     (object : Object) (lane : ℕ) → laned lanes object lane ≡ own object (of_lane logs lane)
