@@ -29,7 +29,7 @@ use Rattle.object_steps.specs.Telling.{told_of_each}
 use Rattle.run_check.specs.Merging.{dones_in}
 use Rattle.run_check.specs.Mailing.{IsHeldMail}
 use Rattle.run_check.specs.Fronts.{IsBrokenAt, StopsAt, AcceptsSoMany}
-use Rattle.run_check.specs.Storing.{told_of, TellsOf, IsObjectHistory, ObjectHolds, object_history_in, has_object_history, dones_of, told_by_object_history, history_in, AreStories, Keeps, Covers, AreHistories}
+use Rattle.run_check.specs.Storing.{told_of, TellsOf, IsObjectHistory, ObjectHolds, object_history_in, has_object_history, dones_of, told_by_object_history, history_in, AreObjectHistories, Keeps, Covers, AreHistories}
 use Rattle.run_check.proofs.FrontLemmas.{whole-front}
 use Rattle.run_check.proofs.BrokenLemmas.{accepts-less, refused-at}
 use Rattle.pool_law.proofs.PatternLemmas.{same_object-refl}
@@ -129,8 +129,8 @@ module _ (shape : Shape) (logs : Logs) (object : Object) (old new : Histories) (
         ∙ ap (λ (b : Bool). if b then Some object_history else object_history_in old other)
         (ap (λ (k : ℕ × ℕ × ℕ). is_at (key_cmp k) (object_key other)) at_key ∙ is_at-object object other ∙ same)
 
-    object_histories-more : AreStories shape logs old → IsObjectHistory shape logs object object_history
-        → AreStories shape logs new
+    object_histories-more : AreObjectHistories shape logs old → IsObjectHistory shape logs object object_history
+        → AreObjectHistories shape logs new
     object_histories-more are is other s found = go (same_object object other) refl
       where
         go : (b : Bool) → same_object object other ≡ b → IsObjectHistory shape logs other s
@@ -147,8 +147,8 @@ module _ (shape : Shape) (logs : Logs) (object : Object) (old new : Histories) (
         go true e = ap is_some (at other true e)
         go false e = ap is_some (at other false e) ∙ has
 
-    pub object_history-added : AreStories shape logs old → IsObjectHistory shape logs object object_history →
-        AreStories shape logs new × Keeps old new × (has_object_history new object ≡ true)
+    pub object_history-added : AreObjectHistories shape logs old → IsObjectHistory shape logs object object_history →
+        AreObjectHistories shape logs new × Keeps old new × (has_object_history new object ≡ true)
     object_history-added are is =
         (object_histories-more are is, keeps-more, ap is_some (at object true (same_object-refl object)))
 
@@ -160,7 +160,7 @@ covers-kept old new notes keeps covers object absent = go (has_object_history ol
     go true has = let both : true ≡ false = sym (keeps object has) ∙ absent in absurd (cc both)
     go false none = covers object none
 
-module _ (shape : Shape) (logs : Logs) (m : Histories) (are : AreStories shape logs m)
+module _ (shape : Shape) (logs : Logs) (m : Histories) (are : AreObjectHistories shape logs m)
     (covers : (lane : ℕ) → Covers m (of_lane logs lane)) where
   pub histories-are : AreHistories shape logs m
   histories-are = record {
@@ -221,9 +221,9 @@ covers-at m object number did has other absent = go (same_object other object) r
 -- a note at an object is covered where the object's history is added
 pub note-added : (shape : Shape) (logs : Logs) (object : Object) (number : ℕ) (did : Did) (note : Note)
     (old new : Histories) (broken : Option BrokenAt) → note ≡ At object number did →
-    MatchOption broken (AreStories shape logs new × Keeps old new × (has_object_history new object ≡ true))
+    MatchOption broken (AreObjectHistories shape logs new × Keeps old new × (has_object_history new object ≡ true))
     (λ b. IsBrokenAt shape logs b.object b.number) →
-    MatchOption broken (AreStories shape logs new × Keeps old new × Covers new (note ∷ []))
+    MatchOption broken (AreObjectHistories shape logs new × Keeps old new × Covers new (note ∷ []))
     (λ b. IsBrokenAt shape logs b.object b.number)
 note-added shape logs object number did note old new None is added = (
   added.0,

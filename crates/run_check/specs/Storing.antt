@@ -73,8 +73,8 @@ abbrev pub told_in : Histories → ℕ → List PlaceTold
 told_in m place = told_by_object_history (object_history_in m (Root place))
 
 -- each history that is there is right
-abbrev pub AreStories : Shape → Logs → Histories → Type 0
-AreStories shape logs m =
+abbrev pub AreObjectHistories : Shape → Logs → Histories → Type 0
+AreObjectHistories shape logs m =
     (object : Object) (kept : ObjectHistory) → object_history_in m object ≡ Some kept →
     IsObjectHistory shape logs object kept
 

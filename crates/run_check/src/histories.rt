@@ -9,7 +9,7 @@ ghost use Rattle.object_steps.specs.Behind.{dids_behind};
 ghost use Rattle.run_check.specs.Merging.{dones_in};
 ghost use Rattle.run_check.specs.ByObject.{notes_in, AreByObject};
 ghost use Rattle.run_check.specs.Fronts.{IsBrokenAt};
-ghost use Rattle.run_check.specs.Storing.{object_history_in, has_object_history, history_in, told_in, AreStories, Keeps, Covers, AreHistories};
+ghost use Rattle.run_check.specs.Storing.{object_history_in, has_object_history, history_in, told_in, AreObjectHistories, Keeps, Covers, AreHistories};
 
 mod object;
 
@@ -119,9 +119,10 @@ impl<'a> Histories<'a> {
         requires sizes { sizes.now ≡ geometry_of shape.now }
         requires chunks { shape.now.chunks ≤ 2 ^ 16 }
         requires handles { 1 ≤ shape.now.handles }
-        ensures { (logs : Logs) → AreByObject lanes.now logs → AreStories shape.now logs self.old
+        ensures { (logs : Logs) → AreByObject lanes.now logs
+            → AreObjectHistories shape.now logs self.old
             → IfOk result (λ broken. MatchOption broken
-            (AreStories shape.now logs self.new × Keeps self.old self.new
+            (AreObjectHistories shape.now logs self.new × Keeps self.old self.new
             × (has_object_history self.new object.now ≡ true))
             (λ b. IsBrokenAt shape.now logs b.object b.number)) }
     {
@@ -153,9 +154,10 @@ impl<'a> Histories<'a> {
         requires sizes { sizes.now ≡ geometry_of shape.now }
         requires chunks { shape.now.chunks ≤ 2 ^ 16 }
         requires handles { 1 ≤ shape.now.handles }
-        ensures { (logs : Logs) → AreByObject lanes.now logs → AreStories shape.now logs self.old
+        ensures { (logs : Logs) → AreByObject lanes.now logs
+            → AreObjectHistories shape.now logs self.old
             → IfOk result (λ broken. MatchOption broken
-            (AreStories shape.now logs self.new × Keeps self.old self.new
+            (AreObjectHistories shape.now logs self.new × Keeps self.old self.new
             × Covers self.new (note.now ∷ []))
             (λ b. IsBrokenAt shape.now logs b.object b.number)) }
     {
@@ -185,9 +187,10 @@ impl<'a> Histories<'a> {
         requires sizes { sizes.now ≡ geometry_of shape.now }
         requires chunks { shape.now.chunks ≤ 2 ^ 16 }
         requires handles { 1 ≤ shape.now.handles }
-        ensures { (logs : Logs) → AreByObject lanes.now logs → AreStories shape.now logs self.old
+        ensures { (logs : Logs) → AreByObject lanes.now logs
+            → AreObjectHistories shape.now logs self.old
             → IfOk result (λ broken. MatchOption broken
-            (AreStories shape.now logs self.new × Keeps self.old self.new
+            (AreObjectHistories shape.now logs self.new × Keeps self.old self.new
             × Covers self.new notes.now)
             (λ b. IsBrokenAt shape.now logs b.object b.number)) }
     {
