@@ -8,7 +8,7 @@ use Rattle.job_queue.specs.declared.jobs.Job.{Job}
 use Rattle.job_queue.specs.declared.jobs.JobLog.{JobLog}
 use Rattle.shared_pool.specs.declared.seat.PoolSeat.{PoolSeat}
 use Rattle.frame_hash.specs.declared.worker.Worker.{Worker}
-use Rattle.frame_cut.specs.Openings.{AreHired, AreLines, IsLine, IsNewWorker}
+use Rattle.frame_cut.specs.Openings.{AreNewWorkers, AreLines, IsLine, IsNewWorker}
 
 -- the last item, and those before it
 get_push : {X : Type 0} (xs : List X) (x y : X) (k : ℕ) → slice_get (xs ++ x ∷ []) k ≡ Some y
@@ -84,17 +84,17 @@ module _ {Q A : Type 0} where
       (lines_more n queues senders receivers queue sender receiver was one)
 
 module _ (cutter : ℕ) (seats : List PoolSeat) (receivers : List (Pass Job JobLog)) where
-  pub hired_none : (workers : List Worker) → workers ≡ [] → AreHired cutter seats receivers 0 workers
-  hired_none workers none = record {
+  pub new_none : (workers : List Worker) → workers ≡ [] → AreNewWorkers cutter seats receivers 0 workers
+  new_none workers none = record {
     many = ap (λ (l : List Worker). length l) none;
     each = λ k w e. absurd (cc (sym (ap (λ (l : List Worker). slice_get l k) none) ∙ e));
   }
 
-  pub hired_more : (n : ℕ) (workers : List Worker) (w : Worker) (seat : PoolSeat) (jobs : Pass Job JobLog)
-      → AreHired cutter seats receivers n workers → slice_get seats n ≡ Some seat
+  pub new_more : (n : ℕ) (workers : List Worker) (w : Worker) (seat : PoolSeat) (jobs : Pass Job JobLog)
+      → AreNewWorkers cutter seats receivers n workers → slice_get seats n ≡ Some seat
       → slice_get receivers n ≡ Some jobs → IsNewWorker cutter n seat jobs w
-      → AreHired cutter seats receivers (n + 1) (workers ++ w ∷ [])
-  hired_more n workers w seat jobs was seat_at jobs_at one = record {
+      → AreNewWorkers cutter seats receivers (n + 1) (workers ++ w ∷ [])
+  new_more n workers w seat jobs was seat_at jobs_at one = record {
     many = (let a = length-append workers (w ∷ []) in let b = was.many in omega (arith, a, b));
     each = λ k x e.
         elim (get_push workers w x k e) [

@@ -40,8 +40,8 @@ use Rattle.frame_cutter.specs.Stages.{jobs_at, pieces_at, roots_at}
 use Rattle.frame_cutter.specs.Standing.{CountsJust, CutterStands, HasBlock, HasServed, IsUnderway, StandsAt}
 use Rattle.frame_cut.specs.declared.openings.Opened.{Opened}
 use Rattle.frame_cut.specs.declared.openings.TheConstants.{ORDER}
-use Rattle.frame_cut.specs.Openings.{AreHired, AreLines, IsNewCutter, IsNewPool, IsNewWorker, layout_of}
-use Rattle.frame_cut.specs.Tellings.{IsHired, IsOpen, IsShopOf}
+use Rattle.frame_cut.specs.Openings.{AreNewWorkers, AreLines, IsNewCutter, IsNewPool, IsNewWorker, layout_of}
+use Rattle.frame_cut.specs.Tellings.{IsIdle, IsOpen, IsShopOf}
 use Rattle.frame_cut.proofs.ListSteps.{there}
 
 -- ---- A seat without notes.
@@ -97,7 +97,7 @@ none_told w got hashes idle none empty =
 module _ (workers : ℕ) {room : ℕ} (o : Opened) (seats : List PoolSeat) (senders receivers : List (Pass Job JobLog))
     (new : IsNewPool workers room o.pool seats)
     (lines : AreLines workers o.queues.items senders receivers)
-    (hired : AreHired workers seats receivers workers o.workers.items) where
+    (ready : AreNewWorkers workers seats receivers workers o.workers.items) where
   module _ (shop : Shop) (is : IsShopOf shop o) where
     -- its queue
     line_at : (k : ℕ) → k < workers → (sender receiver : Pass Job JobLog) → slice_get senders k ≡ Some sender
@@ -157,10 +157,10 @@ module _ (workers : ℕ) {room : ℕ} (o : Opened) (seats : List PoolSeat) (send
         work = none_told w.work (view w.jobs).got w.hashes.items one.work got_none one.hashes;
       }
 
-    pub each_hired : (k : ℕ) (w : Worker) → slice_get o.workers.items k ≡ Some w → IsHired shop workers k w
-    each_hired k w e =
-        let x = hired.each k w e in
-        let lt : k < workers = (let a = slice_get_within o.workers.items k w e in let b = hired.many in
+    pub each_ready : (k : ℕ) (w : Worker) → slice_get o.workers.items k ≡ Some w → IsIdle shop workers k w
+    each_ready k w e =
+        let x = ready.each k w e in
+        let lt : k < workers = (let a = slice_get_within o.workers.items k w e in let b = ready.many in
         omega (arith, a, b)) in
         let one = x.1.1.2 in
         record {
@@ -181,7 +181,7 @@ module _ (workers room : ℕ) (o : Opened) (seats : List PoolSeat) (own : PoolSe
     (block class : ℕ) (some : 0 < workers)
     (new : IsNewPool workers room o.pool seats)
     (lines : AreLines workers o.queues.items senders receivers)
-    (hired : AreHired workers seats receivers workers o.workers.items)
+    (ready : AreNewWorkers workers seats receivers workers o.workers.items)
     (own_at : slice_get seats workers ≡ Some own)
     (cutter : IsNewCutter workers own senders rooms block class o.cutter)
     (long : 0 < block) (short : block ≤ 65536)
@@ -250,7 +250,7 @@ module _ (workers room : ℕ) (o : Opened) (seats : List PoolSeat) (own : PoolSe
       record {
         end = s.0;
         end_is = ap (λ (es : List (Pass Job JobLog)). slice_get es worker) cutter.ends_are ∙ s.1;
-        sends = (line_at workers o seats senders receivers new lines hired shop is worker below s.0 r.0 s.1 r.1).0;
+        sends = (line_at workers o seats senders receivers new lines ready shop is worker below s.0 r.0 s.1 r.1).0;
         jobs =
             (lines.each worker q.0 s.0 r.0 q.1 s.1 r.1).sent
             ∙ ap (λ (st : Stage). jobs_at d.workers worker [] st) (sym cutter.stage);
@@ -300,22 +300,22 @@ pub is_open : (workers room : ℕ) (o : Opened) (seats : List PoolSeat) (own : P
     (senders receivers : List (Pass Job JobLog)) (rooms : List ℕ) → rooms ≡ replicate workers room
     → (block class : ℕ) → 0 < workers
     → IsNewPool workers room o.pool seats → AreLines workers o.queues.items senders receivers
-    → AreHired workers seats receivers workers o.workers.items → slice_get seats workers ≡ Some own
+    → AreNewWorkers workers seats receivers workers o.workers.items → slice_get seats workers ≡ Some own
     → IsNewCutter workers own senders rooms block class o.cutter → 0 < block → block ≤ 65536
     → class_of (of_pages ORDER DEFAULT_PAGE) block ≡ Some class
     → (o.seats.items ≡ []) × (workers + 1 ≤ vec_capacity o.seats)
     → (o.told.items ≡ []) × (workers ≤ vec_capacity o.told) → IsOpen workers block o
-is_open w room o seats own senders receivers rooms rooms_are block class some new lines hired own_at made long short
+is_open w room o seats own senders receivers rooms rooms_are block class some new lines ready own_at made long short
     class_at left told =
     record {
       cutter = λ shop at.
-          cutter_stands w room o seats own senders receivers rooms rooms_are block class some new lines hired own_at
+          cutter_stands w room o seats own senders receivers rooms rooms_are block class some new lines ready own_at
           made long short class_at shop at;
       count = made.workers_are;
       long = made.block_is;
       some = some;
-      many = hired.many;
-      hired = λ shop at k x e. each_hired w o seats senders receivers new lines hired shop at k x e;
+      many = ready.many;
+      ready = λ shop at k x e. each_ready w o seats senders receivers new lines ready shop at k x e;
       seats = left;
       told = told;
       begun = (made.last, made.verdict);

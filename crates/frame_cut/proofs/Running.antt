@@ -65,13 +65,13 @@ pub record HasRun (shop : Shop) (d : Cutter) (ws : List Worker) : Type 0 where
 module _ (shop : Shop) (workers block : ℕ) (o : Opened) (open' : IsOpen workers block o) (same : IsShopOf shop o) where
   pub all_stand : All (WorkerStands shop) o.workers.items
   all_stand k d lt =
-      (open'.hired shop same k (get_or o.workers.items k d) (slice_get-get_or o.workers.items k d lt)).stands
+      (open'.ready shop same k (get_or o.workers.items k d) (slice_get-get_or o.workers.items k d lt)).stands
 
   stand_there : (ws : List Worker) → EachCame (WorkerCame shop) o.workers.items ws → (k : ℕ) (w : Worker)
       → slice_get ws k ≡ Some w → StandsThere shop workers k w
   stand_there ws came k w e =
       let at = came k w e in
-      let h = open'.hired shop same k at.0 at.1 in
+      let h = open'.ready shop same k at.0 at.1 in
       record {
         stands = at.2.stands;
         number = at.2.same.number ∙ h.number;

@@ -97,7 +97,7 @@ pub record IsNewWorker
     pub work : w.work ≡ Work.Idle
 
 -- so many workers, each with the seat and the end at its place
-pub record AreHired
+pub record AreNewWorkers
     (cutter : ℕ) (seats : List PoolSeat) (receivers : List (Pass Job JobLog)) (count : ℕ)
     (workers : List Worker) : Type 0
   where

@@ -44,7 +44,7 @@ pub record IsShopOf (shop : Shop) (o : Opened) : Type 0 where
   pub queues : shop.queues.now ≡ o.queues.items
 
 -- the worker stands at its place and got nothing yet
-pub record IsHired (shop : Shop) (workers k : ℕ) (w : Worker) : Type 0 where
+pub record IsIdle (shop : Shop) (workers k : ℕ) (w : Worker) : Type 0 where
   pub stands : WorkerStands shop w
   pub number : w.number ≡ k
   pub cutter : w.cutter ≡ workers
@@ -58,8 +58,8 @@ pub record IsOpen (workers block : ℕ) (o : Opened) : Type 0 where
   pub long : o.cutter.block ≡ block
   pub some : 0 < workers
   pub many : length o.workers.items ≡ workers
-  pub hired : (shop : Shop) → IsShopOf shop o → (k : ℕ) (w : Worker) →
-      slice_get o.workers.items k ≡ Some w → IsHired shop workers k w
+  pub ready : (shop : Shop) → IsShopOf shop o → (k : ℕ) (w : Worker) →
+      slice_get o.workers.items k ≡ Some w → IsIdle shop workers k w
   pub seats : (o.seats.items ≡ []) × (workers + 1 ≤ vec_capacity o.seats)
   pub told : (o.told.items ≡ []) × (workers ≤ vec_capacity o.told)
   -- nothing was read

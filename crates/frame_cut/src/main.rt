@@ -12,11 +12,11 @@ use text_ends::{StdSink, StdSource};
 mod answer;
 mod closing;
 mod hashing;
-mod hiring;
 mod line;
 mod openings;
 mod pages;
 mod run;
+mod starting;
 mod text;
 
 use answer::{Outcome, Status};

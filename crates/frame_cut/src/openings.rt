@@ -7,7 +7,7 @@ ghost use Rattle.frame_words.specs.Words.{AreOptions};
 ghost use Rattle.frame_cut.specs.Openings.{AreLines, IsNewPool, layout_of, room_of};
 ghost use Rattle.frame_cut.specs.Tellings.{IsOpen};
 
-use crate::hiring::{hire, new_cutter};
+use crate::starting::{new_cutter, new_workers};
 use frame_core::{MAX_FRAMES, MAX_STREAM};
 use frame_cutter::{Cutter, MOST_SLICES};
 use frame_hash::{HashOf, Worker};
@@ -68,7 +68,7 @@ pub fn open(alloc: Global, options: CutOptions) -> Result<Opened, AllocError>
                 senders,
                 receivers,
             } = lines;
-            let workers = hire(alloc, options.workers, &mut seats, receivers, workers);
+            let workers = new_workers(alloc, options.workers, &mut seats, receivers, workers);
             let seat = seats.remove(0);
             let cutter = new_cutter(
                 alloc,

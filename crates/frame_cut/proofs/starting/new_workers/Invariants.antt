@@ -1,10 +1,10 @@
 use Rattle.std.proofs.Common.{◌≡◌, ◌≤◌, drop, vec_capacity}
-use Rattle.frame_cut.specs.Openings.{AreHired}
-use Rattle.frame_cut.proofs.hiring.hire.Given as goal
+use Rattle.frame_cut.specs.Openings.{AreNewWorkers}
+use Rattle.frame_cut.proofs.starting.new_workers.Given as goal
 
 abbrev pub invariant-loop-number : goal.invariant-loop-number
 invariant-loop-number l = record {
-  hired : AreHired l.count l.initial.seats.items l.initial.receivers.items l.number l.workers.items;
+  ready : AreNewWorkers l.count l.initial.seats.items l.initial.receivers.items l.number l.workers.items;
   seats : l.seats.items ≡ drop l.number l.initial.seats.items;
   receivers : l.receivers.items ≡ drop l.number l.initial.receivers.items;
   capacity : vec_capacity l.seats ≡ vec_capacity l.initial.seats;

@@ -1,7 +1,7 @@
 //! The workers and the cutter, as they start.
 
 ghost use Rattle.std.specs.Prelude.{◌≡◌, ◌≤◌, [], drop, vec_capacity, vec_len};
-ghost use Rattle.frame_cut.specs.Openings.{AreHired, IsNewCutter, IsNewWorker};
+ghost use Rattle.frame_cut.specs.Openings.{AreNewWorkers, IsNewCutter, IsNewWorker};
 
 use crate::openings::SEAT_TURNS;
 use frame_cutter::{Cutter, MOST_SLICES, Stage, Verdict};
@@ -12,7 +12,7 @@ use shared_pool::PoolSeat;
 use std::alloc::Global;
 
 /// The workers, each with the seat of its number and its end of its queue.
-pub fn hire(
+pub fn new_workers(
     alloc: Global,
     count: u32,
     seats: &mut Vec<PoolSeat>,
@@ -22,7 +22,7 @@ pub fn hire(
     requires seats { count ≤ vec_len seats.old }
     requires receivers { vec_len receivers ≡ count }
     requires workers { (workers.items ≡ []) × (count ≤ vec_capacity workers) }
-    ensures hired { AreHired count seats.old.items receivers.items count result.items }
+    ensures ready { AreNewWorkers count seats.old.items receivers.items count result.items }
     ensures left { seats.new.items ≡ drop count seats.old.items }
     ensures room { vec_capacity seats.new ≡ vec_capacity seats.old }
 {

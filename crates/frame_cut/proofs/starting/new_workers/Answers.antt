@@ -5,15 +5,15 @@ use Rattle.job_queue.specs.declared.jobs.Job.{Job}
 use Rattle.job_queue.specs.declared.jobs.JobLog.{JobLog}
 use Rattle.shared_pool.specs.declared.seat.PoolSeat.{PoolSeat}
 use Rattle.frame_hash.specs.declared.worker.Worker.{Worker}
-use Rattle.frame_cut.specs.Openings.{AreHired}
-use Rattle.frame_cut.proofs.LineLaws.{hired_none, hired_more}
+use Rattle.frame_cut.specs.Openings.{AreNewWorkers}
+use Rattle.frame_cut.proofs.LineLaws.{new_none, new_more}
 use Rattle.frame_cut.proofs.ListSteps.{taken_off}
-use Rattle.frame_cut.proofs.hiring.hire.Goals as goal
+use Rattle.frame_cut.proofs.starting.new_workers.Goals as goal
 
 pub loop-number-init : goal.loop-number-init
 loop-number-init c = record {
-  hired =
-      hired_none c.args.count c.args.seats.now.items c.args.receivers.items c.args.workers.items
+  ready =
+      new_none c.args.count c.args.seats.now.items c.args.receivers.items c.args.workers.items
       c.requires.workers.0;
   seats = refl;
   receivers = refl;
@@ -38,7 +38,7 @@ remove-jobs-requires c =
 
 pub push_reserved-requires : goal.push_reserved-requires
 push_reserved-requires c =
-    let l = c.loop-number in let a = l.invariant.hired.many in let b = l.workers.ok.0 in
+    let l = c.loop-number in let a = l.invariant.ready.many in let b = l.workers.ok.0 in
     let d = l.invariant.room in let lt = c.loop-number-test.true in omega (arith, a, b, d, lt)
 
 pub loop-number-preserved : goal.loop-number-preserved
@@ -51,10 +51,10 @@ loop-number-preserved c =
     let jobs_at = taken_off ends.items l.receivers.items n jobs.result inv.receivers
     (let a = c.requires.receivers in let b = ends.ok.0 in omega (arith, a, b, lt)) jobs.ensures.value in
     record {
-      hired =
-          subst (λ (ws : List Worker). AreHired c.args.count first.items ends.items (n + 1) ws) (sym e.items)
-          (hired_more c.args.count first.items ends.items n l.workers.items c.new_worker.result seat.result jobs.result
-          inv.hired seat_at jobs_at c.new_worker.ensures);
+      ready =
+          subst (λ (ws : List Worker). AreNewWorkers c.args.count first.items ends.items (n + 1) ws) (sym e.items)
+          (new_more c.args.count first.items ends.items n l.workers.items c.new_worker.result seat.result jobs.result
+          inv.ready seat_at jobs_at c.new_worker.ensures);
       seats =
           seat.ensures.by_index.2 ∙ ap (λ (s : List PoolSeat). drop 1 s) inv.seats ∙ drop-drop 1 n first.items;
       receivers =
