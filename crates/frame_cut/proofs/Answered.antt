@@ -8,7 +8,7 @@ use Rattle.text_ends.specs.Spans.{SourceSpan, source_span}
 use Rattle.frame_core.specs.declared.frame.FrameNo.{FrameNo}
 use Rattle.frame_core.specs.declared.frame.FrameNo.TheVariants.{Length, Frames, Stream, Inside}
 use Rattle.frame_core.specs.Frames.{frames_of}
-use Rattle.frame_hash.specs.declared.shop.Shop.{Shop}
+use Rattle.frame_hash.specs.declared.shared.Shared.{Shared}
 use Rattle.frame_hash.specs.declared.worker.Work.TheVariants.{Done}
 use Rattle.frame_hash.specs.declared.worker.Worker.{Worker}
 use Rattle.frame_cutter.specs.declared.cutter.Cutter.{Cutter}
@@ -22,8 +22,8 @@ use Rattle.frame_cut.specs.Outcomes.{HasTaken, IsMetAt}
 use Rattle.frame_cut.specs.Tellings.{HasTold, Tells}
 use Rattle.frame_cut.proofs.Together.{AreTogether, tells_all}
 
-module _ {S : Type 0} (left : S → Option (List ℕ)) (faults : S → ℕ) (shop : Shop) (old new : S) (first d : Cutter)
-    (came : CutterCame left faults shop old new first d) (block : ℕ) (size : first.block ≡ block) where
+module _ {S : Type 0} (left : S → Option (List ℕ)) (faults : S → ℕ) (shared : Shared) (old new : S) (first d : Cutter)
+    (came : CutterCame left faults shared old new first d) (block : ℕ) (size : first.block ≡ block) where
   abbrev src : SourceSpan
   src = source_span left faults old new
 
@@ -72,7 +72,7 @@ module _ {S : Type 0} (left : S → Option (List ℕ)) (faults : S → ℕ) (sho
 
     -- a stream of frames
     pub told_whole : (told : StreamEnd) (ws : List Worker) (seats : List PoolSeat) (shape : Shape)
-        → AreTogether shop d ws seats → All (λ (w : Worker). w.work ≡ Done) ws
+        → AreTogether shared d ws seats → All (λ (w : Worker). w.work ≡ Done) ws
         → AreWhole shape (parts_in seats) → told.hashes.items ≡ map (λ w. w.hashes) ws → told.frames ≡ d.frames
         → told.verdict ≡ d.verdict → told.verdict ≡ Whole → HasTold told.verdict told block src
     told_whole told ws seats shape all done whole hashes frames same is =
@@ -80,20 +80,20 @@ module _ {S : Type 0} (left : S → Option (List ℕ)) (faults : S → ℕ) (sho
         let ok : is_fault d.verdict ≡ false = ap is_fault own in
         let v = subst (λ v. HasVerdict v d came.read came.stands.handed) own verdict in
         let tells : Tells told (frames_of came.read) =
-        tells_all shop d ws seats all came.read came.stands over done shape whole told hashes frames own in
+        tells_all shared d ws seats all came.read came.stands over done shape whole told hashes frames own in
         subst (λ v. HasTold v told block src) (sym is)
         (came.read, (record { taken = taken ok; end = came.end ok v.0; sound = v.1 }, tells))
 
     -- by what it came to
     pub told_of_stream : (told : StreamEnd) (ws : List Worker) (seats : List PoolSeat) (shape : Shape)
-        → AreTogether shop d ws seats → All (λ (w : Worker). w.work ≡ Done) ws
+        → AreTogether shared d ws seats → All (λ (w : Worker). w.work ≡ Done) ws
         → AreWhole shape (parts_in seats) → told.hashes.items ≡ map (λ w. w.hashes) ws → told.frames ≡ d.frames
         → told.verdict ≡ d.verdict → HasTold told.verdict told block src
     told_of_stream told ws seats shape all done whole hashes frames same =
         by_verdict told ws seats shape all done whole hashes frames same told.verdict refl
       where
         by_verdict : (told : StreamEnd) (ws : List Worker) (seats : List PoolSeat) (shape : Shape)
-            → AreTogether shop d ws seats → All (λ (w : Worker). w.work ≡ Done) ws
+            → AreTogether shared d ws seats → All (λ (w : Worker). w.work ≡ Done) ws
             → AreWhole shape (parts_in seats) → told.hashes.items ≡ map (λ w. w.hashes) ws
             → told.frames ≡ d.frames → told.verdict ≡ d.verdict → (v : Verdict) → told.verdict ≡ v
             → HasTold told.verdict told block src

@@ -26,7 +26,7 @@ use Rattle.seat_work.specs.Works.{Works}
 use Rattle.seat_work.proofs.FirstSeats.{opened_works}
 use Rattle.frame_core.proofs.StandingLaws.{frames_of-nil}
 use Rattle.frame_hash.specs.declared.hashes.HashOf.{HashOf}
-use Rattle.frame_hash.specs.declared.shop.Shop.{Shop}
+use Rattle.frame_hash.specs.declared.shared.Shared.{Shared}
 use Rattle.frame_hash.specs.declared.worker.Work.{Work}
 use Rattle.frame_hash.specs.declared.worker.Work.TheVariants as works
 use Rattle.frame_hash.specs.declared.worker.Worker.{Worker}
@@ -41,7 +41,7 @@ use Rattle.frame_cutter.specs.Standing.{CountsJust, CutterStands, HasBlock, HasS
 use Rattle.frame_cut.specs.declared.openings.Opened.{Opened}
 use Rattle.frame_cut.specs.declared.openings.TheConstants.{ORDER}
 use Rattle.frame_cut.specs.Openings.{AreNewWorkers, AreLines, IsNewCutter, IsNewPool, IsNewWorker, layout_of}
-use Rattle.frame_cut.specs.Tellings.{IsIdle, IsOpen, IsShopOf}
+use Rattle.frame_cut.specs.Tellings.{IsIdle, IsOpen, IsSharedOf}
 use Rattle.frame_cut.proofs.ListSteps.{there}
 
 -- ---- A seat without notes.
@@ -98,11 +98,12 @@ module _ (workers : ℕ) {room : ℕ} (o : Opened) (seats : List PoolSeat) (send
     (new : IsNewPool workers room o.pool seats)
     (lines : AreLines workers o.queues.items senders receivers)
     (ready : AreNewWorkers workers seats receivers workers o.workers.items) where
-  module _ (shop : Shop) (is : IsShopOf shop o) where
+  module _ (shared : Shared) (is : IsSharedOf shared o) where
     -- its queue
     line_at : (k : ℕ) → k < workers → (sender receiver : Pass Job JobLog) → slice_get senders k ≡ Some sender
         → slice_get receivers k ≡ Some receiver
-        → HoldsAt (λ q. IsSender q sender) shop.queues.now k × HoldsAt (λ q. IsReceiver q receiver) shop.queues.now k
+        → HoldsAt (λ q. IsSender q sender) shared.queues.now k
+        × HoldsAt (λ q. IsReceiver q receiver) shared.queues.now k
     line_at k lt sender receiver a b =
         let q = there o.queues.items k (let n = lines.queues_many in omega (arith, n, lt)) in
         let line = lines.each k q.0 sender receiver q.1 a b in
@@ -116,10 +117,10 @@ module _ (workers : ℕ) {room : ℕ} (o : Opened) (seats : List PoolSeat) (send
               line.receives,
         )
 
-    queues_many : length shop.queues.now ≡ workers
+    queues_many : length shared.queues.now ≡ workers
     queues_many = ap (λ qs. length qs) is.queues ∙ lines.queues_many
 
-    pool_lanes : shop.pool.now.table.layout.shape.lanes ≡ workers + 1
+    pool_lanes : shared.pool.now.table.layout.shape.lanes ≡ workers + 1
     pool_lanes = ap (λ (p : SharedPool). p.table.layout.shape.lanes) is.pool ∙ lanes_are workers o.pool seats new
 
     module _ (k : ℕ) (w : Worker) (lt : k < workers) (seat : PoolSeat) (jobs : Pass Job JobLog)
@@ -137,7 +138,7 @@ module _ (workers : ℕ) {room : ℕ} (o : Opened) (seats : List PoolSeat) (send
           ap (λ (j : Pass Job JobLog). (view j).got) one.jobs_are
           ∙ (lines.each k q.0 s.0 jobs q.1 s.1 jobs_at).got
 
-      worker_stands : WorkerStands shop w
+      worker_stands : WorkerStands shared w
       worker_stands = record {
         works =
             subst (λ (p : SharedPool). Works p empty_hand w.turns 0 w.seat) (sym is.pool)
@@ -148,7 +149,7 @@ module _ (workers : ℕ) {room : ℕ} (o : Opened) (seats : List PoolSeat) (send
         number = (let a = one.number_is in let b = queues_many in omega (arith, a, b, lt));
         receives =
             (let s = there senders k (let n = lines.senders_many in omega (arith, n, lt)) in
-            subst (λ (x : ℕ × Pass Job JobLog). HoldsAt (λ q. IsReceiver q x.1) shop.queues.now x.0)
+            subst (λ (x : ℕ × Pass Job JobLog). HoldsAt (λ q. IsReceiver q x.1) shared.queues.now x.0)
             (λ i. (sym one.number_is i, sym one.jobs_are i))
             (line_at k lt s.0 jobs s.1 jobs_at).1);
         pieces = [];
@@ -157,7 +158,7 @@ module _ (workers : ℕ) {room : ℕ} (o : Opened) (seats : List PoolSeat) (send
         work = none_told w.work (view w.jobs).got w.hashes.items one.work got_none one.hashes;
       }
 
-    pub each_ready : (k : ℕ) (w : Worker) → slice_get o.workers.items k ≡ Some w → IsIdle shop workers k w
+    pub each_ready : (k : ℕ) (w : Worker) → slice_get o.workers.items k ≡ Some w → IsIdle shared workers k w
     each_ready k w e =
         let x = ready.each k w e in
         let lt : k < workers = (let a = slice_get_within o.workers.items k w e in let b = ready.many in
@@ -186,7 +187,7 @@ module _ (workers room : ℕ) (o : Opened) (seats : List PoolSeat) (own : PoolSe
     (cutter : IsNewCutter workers own senders rooms block class o.cutter)
     (long : 0 < block) (short : block ≤ 65536)
     (class_at : class_of (of_pages ORDER DEFAULT_PAGE) block ≡ Some class)
-    (shop : Shop) (is : IsShopOf shop o) where
+    (shared : Shared) (is : IsSharedOf shared o) where
   abbrev d : Cutter
   d = o.cutter
 
@@ -198,7 +199,7 @@ module _ (workers room : ℕ) (o : Opened) (seats : List PoolSeat) (own : PoolSe
   abbrev notes : List Entry
   notes = (view_of d.seat).own.notes
 
-  stands_at : StandsAt shop d
+  stands_at : StandsAt shared d
   stands_at = record {
     works =
         subst (λ (p : SharedPool). Works p empty_hand d.turns d.moves d.seat) (sym is.pool)
@@ -220,7 +221,7 @@ module _ (workers room : ℕ) (o : Opened) (seats : List PoolSeat) (own : PoolSe
         let b = length-replicate workers room in let c = cutter.workers_are in omega (arith, a, b, c));
   }
 
-  has_block : HasBlock shop d
+  has_block : HasBlock shared d
   has_block = record {
     some = (let a = cutter.block_is in omega (arith, a, long));
     few = (let a = cutter.block_is in omega (arith, a, short));
@@ -236,12 +237,12 @@ module _ (workers room : ℕ) (o : Opened) (seats : List PoolSeat) (own : PoolSe
       ap (λ (s : Stage). pieces_at d.workers worker [] s []) cutter.stage
       ∙ nothing_taken (0 % d.workers == worker)
 
-  room_here : (worker : ℕ) → worker < workers → RoomFor shop.pool.now d.workers worker room
+  room_here : (worker : ℕ) → worker < workers → RoomFor shared.pool.now d.workers worker room
   room_here worker below =
       subst (λ (x : SharedPool × ℕ). RoomFor x.0 x.1 worker room)
       (λ i. (sym is.pool i, sym cutter.workers_are i)) (new.rooms worker below)
 
-  has_served : (worker : ℕ) → worker < d.workers → HasServed shop d [] [] worker
+  has_served : (worker : ℕ) → worker < d.workers → HasServed shared d [] [] worker
   has_served worker lt =
       let below : worker < workers = (let a = cutter.workers_are in omega (arith, a, lt)) in
       let s = there senders worker (let n = lines.senders_many in omega (arith, n, below)) in
@@ -250,7 +251,7 @@ module _ (workers room : ℕ) (o : Opened) (seats : List PoolSeat) (own : PoolSe
       record {
         end = s.0;
         end_is = ap (λ (es : List (Pass Job JobLog)). slice_get es worker) cutter.ends_are ∙ s.1;
-        sends = (line_at workers o seats senders receivers new lines ready shop is worker below s.0 r.0 s.1 r.1).0;
+        sends = (line_at workers o seats senders receivers new lines ready shared is worker below s.0 r.0 s.1 r.1).0;
         jobs =
             (lines.each worker q.0 s.0 r.0 q.1 s.1 r.1).sent
             ∙ ap (λ (st : Stage). jobs_at d.workers worker [] st) (sym cutter.stage);
@@ -277,7 +278,7 @@ module _ (workers room : ℕ) (o : Opened) (seats : List PoolSeat) (own : PoolSe
       (λ i. (sym cutter.stage i, sym cutter.slices i))
       (λ r. (let a = even r in omega (arith, a))) root
 
-  pub cutter_stands : CutterStands shop d []
+  pub cutter_stands : CutterStands shared d []
   cutter_stands = record {
     stands = stands_at;
     block = has_block;
@@ -308,14 +309,14 @@ pub is_open : (workers room : ℕ) (o : Opened) (seats : List PoolSeat) (own : P
 is_open w room o seats own senders receivers rooms rooms_are block class some new lines ready own_at made long short
     class_at left told =
     record {
-      cutter = λ shop at.
+      cutter = λ shared at.
           cutter_stands w room o seats own senders receivers rooms rooms_are block class some new lines ready own_at
-          made long short class_at shop at;
+          made long short class_at shared at;
       count = made.workers_are;
       long = made.block_is;
       some = some;
       many = ready.many;
-      ready = λ shop at k x e. each_ready w o seats senders receivers new lines ready shop at k x e;
+      ready = λ shared at k x e. each_ready w o seats senders receivers new lines ready shared at k x e;
       seats = left;
       told = told;
       begun = (made.last, made.verdict);

@@ -12,7 +12,7 @@ use Rattle.shared_pool.specs.declared.seat.PoolSeat.{PoolSeat}
 use Rattle.shared_pool.specs.Seated.{IsDone}
 use Rattle.shared_pool.specs.SeatViews.{view_of}
 use Rattle.work_table.specs.Places.{EachCame}
-use Rattle.frame_hash.specs.declared.shop.Shop.{Shop}
+use Rattle.frame_hash.specs.declared.shared.Shared.{Shared}
 use Rattle.frame_hash.specs.declared.worker.Worker.{Worker}
 use Rattle.frame_hash.specs.Standing.{WorkerCame, WorkerStands}
 use Rattle.frame_cutter.specs.declared.cutting.Cutting as machines
@@ -20,7 +20,7 @@ use Rattle.frame_cutter.specs.declared.cutter.Cutter.{Cutter}
 use Rattle.frame_cutter.specs.declared.stage.Verdict.TheVariants.{Whole}
 use Rattle.frame_cutter.specs.Standing.{CuttingCame, CutterCame, CutterStands, is_fault}
 use Rattle.frame_cut.specs.declared.openings.Opened.{Opened}
-use Rattle.frame_cut.specs.Tellings.{HasEnds, IsOpen, IsShopOf}
+use Rattle.frame_cut.specs.Tellings.{HasEnds, IsOpen, IsSharedOf}
 use Rattle.frame_cut.proofs.WorkerEnds.{StandsThere}
 
 consumes_none : (left : Option (List ℕ)) → Consumes left left []
@@ -28,9 +28,9 @@ consumes_none None = tt
 consumes_none (Some xs) = refl
 
 -- the cutter that has read nothing has come of itself
-started : {S : Type 0} (left : S → Option (List ℕ)) (faults : S → ℕ) (shop : Shop) (source : S) (d : Cutter)
-    → CutterStands shop d [] → d.last ≡ false → d.verdict ≡ Whole → CutterCame left faults shop source source d d
-started left faults shop source d stands last sound =
+started : {S : Type 0} (left : S → Option (List ℕ)) (faults : S → ℕ) (shared : Shared) (source : S) (d : Cutter)
+    → CutterStands shared d [] → d.last ≡ false → d.verdict ≡ Whole → CutterCame left faults shared source source d d
+started left faults shared source d stands last sound =
     let none : is_fault d.verdict ≡ false = ap is_fault sound in
     record {
       read = [];
@@ -43,35 +43,37 @@ started left faults shop source d stands last sound =
     }
 
 -- and so has its cutter
-pub cutter_started : {S : Type 0} (left : S → Option (List ℕ)) (faults : S → ℕ) (shop : Shop) (c : machines.Cutting S)
-    → CutterStands shop c.cutter.now [] → c.cutter.now.last ≡ false → c.cutter.now.verdict ≡ Whole
-    → CuttingCame left faults shop c c
-cutter_started left faults shop c stands last sound = record {
+pub cutter_started : {S : Type 0} (left : S → Option (List ℕ)) (faults : S → ℕ)
+    (shared : Shared) (c : machines.Cutting S)
+    → CutterStands shared c.cutter.now [] → c.cutter.now.last ≡ false → c.cutter.now.verdict ≡ Whole
+    → CuttingCame left faults shared c c
+cutter_started left faults shared c stands last sound = record {
   source = refl;
   cutter = refl;
-  came = started left faults shop c.source.now c.cutter.now stands last sound;
+  came = started left faults shared c.source.now c.cutter.now stands last sound;
 }
 
 -- and each worker
-pub came_first : (shop : Shop) (ws : List Worker) → All (WorkerStands shop) ws
-    → All (λ (w : Worker). WorkerCame shop w w) ws
-came_first shop ws stand k d lt = record { stands = stand k d lt; same = record { number = refl; cutter = refl } }
+pub came_first : (shared : Shared) (ws : List Worker) → All (WorkerStands shared) ws
+    → All (λ (w : Worker). WorkerCame shared w w) ws
+came_first shared ws stand k d lt = record { stands = stand k d lt; same = record { number = refl; cutter = refl } }
 
 -- the workers of a cutter, each at its place
-pub record HasRun (shop : Shop) (d : Cutter) (ws : List Worker) : Type 0 where
+pub record HasRun (shared : Shared) (d : Cutter) (ws : List Worker) : Type 0 where
   pub many : length ws ≡ d.workers
-  pub stand : (k : ℕ) (w : Worker) → slice_get ws k ≡ Some w → StandsThere shop d.workers k w
+  pub stand : (k : ℕ) (w : Worker) → slice_get ws k ≡ Some w → StandsThere shared d.workers k w
 
-module _ (shop : Shop) (workers block : ℕ) (o : Opened) (open' : IsOpen workers block o) (same : IsShopOf shop o) where
-  pub all_stand : All (WorkerStands shop) o.workers.items
+module _ (shared : Shared) (workers block : ℕ) (o : Opened) (open' : IsOpen workers block o)
+    (same : IsSharedOf shared o) where
+  pub all_stand : All (WorkerStands shared) o.workers.items
   all_stand k d lt =
-      (open'.ready shop same k (get_or o.workers.items k d) (slice_get-get_or o.workers.items k d lt)).stands
+      (open'.ready shared same k (get_or o.workers.items k d) (slice_get-get_or o.workers.items k d lt)).stands
 
-  stand_there : (ws : List Worker) → EachCame (WorkerCame shop) o.workers.items ws → (k : ℕ) (w : Worker)
-      → slice_get ws k ≡ Some w → StandsThere shop workers k w
+  stand_there : (ws : List Worker) → EachCame (WorkerCame shared) o.workers.items ws → (k : ℕ) (w : Worker)
+      → slice_get ws k ≡ Some w → StandsThere shared workers k w
   stand_there ws came k w e =
       let at = came k w e in
-      let h = open'.ready shop same k at.0 at.1 in
+      let h = open'.ready shared same k at.0 at.1 in
       record {
         stands = at.2.stands;
         number = at.2.same.number ∙ h.number;
@@ -80,23 +82,23 @@ module _ (shop : Shop) (workers block : ℕ) (o : Opened) (open' : IsOpen worker
 
   -- as many as there were, each at its place
   pub has_run : (d : Cutter) → d.workers ≡ o.cutter.workers → (ws : List Worker)
-      → EachCame (WorkerCame shop) o.workers.items ws → length ws ≡ length o.workers.items → HasRun shop d ws
+      → EachCame (WorkerCame shared) o.workers.items ws → length ws ≡ length o.workers.items → HasRun shared d ws
   has_run d workers_are ws came count =
       let n : d.workers ≡ workers = workers_are ∙ open'.count in
       record {
         many = (let a = open'.many in omega (arith, n, a, count));
-        stand = λ k w e. subst (λ m. StandsThere shop m k w) (sym n) (stand_there ws came k w e);
+        stand = λ k w e. subst (λ m. StandsThere shared m k w) (sym n) (stand_there ws came k w e);
       }
 
 -- ---- Their queues and their seats.
 
 -- the ends of each worker's queue
-module _ (shop : Shop) (d : Cutter) (read : List ℕ) (ws : List Worker) (cutter : CutterStands shop d read)
-    (run : HasRun shop d ws) where
-  pub queues_many : length ws ≡ length shop.queues.now
+module _ (shared : Shared) (d : Cutter) (read : List ℕ) (ws : List Worker) (cutter : CutterStands shared d read)
+    (run : HasRun shared d ws) where
+  pub queues_many : length ws ≡ length shared.queues.now
   queues_many = let a = cutter.stands.queues in let b = run.many in omega (arith, a, b)
 
-  pub has_ends : (k : ℕ) (w : Worker) → slice_get ws k ≡ Some w → HasEnds shop.queues.now d.ends.items k w.jobs
+  pub has_ends : (k : ℕ) (w : Worker) → slice_get ws k ≡ Some w → HasEnds shared.queues.now d.ends.items k w.jobs
   has_ends k w e =
       let within = slice_get_within ws k w e in
       let there = run.stand k w e in
@@ -108,7 +110,7 @@ module _ (shop : Shop) (d : Cutter) (read : List ℕ) (ws : List Worker) (cutter
         end_is = served.end_is;
         sends = served.sends;
         receives =
-            subst (λ n. HoldsAt (λ q. IsReceiver q w.jobs) shop.queues.now n) there.number there.stands.receives;
+            subst (λ n. HoldsAt (λ q. IsReceiver q w.jobs) shared.queues.now n) there.number there.stands.receives;
       }
 
 -- a seat with nothing in hand is done
@@ -117,13 +119,13 @@ done_seat : (pool : SharedPool) (turns moves lane : ℕ) (s : PoolSeat) → Work
 done_seat pool turns moves lane s works number =
     record { seat = works.seat; number = number; nothing = has_nothing (view_of s) works.held }
 
-pub cutter_done : (shop : Shop) (d : Cutter) (read : List ℕ) → CutterStands shop d read
-    → IsDone shop.pool.now d.workers d.seat
-cutter_done shop d read cutter =
-    done_seat shop.pool.now d.turns d.moves d.workers d.seat cutter.stands.works cutter.stands.lane
+pub cutter_done : (shared : Shared) (d : Cutter) (read : List ℕ) → CutterStands shared d read
+    → IsDone shared.pool.now d.workers d.seat
+cutter_done shared d read cutter =
+    done_seat shared.pool.now d.turns d.moves d.workers d.seat cutter.stands.works cutter.stands.lane
 
-pub worker_done : (shop : Shop) (workers k : ℕ) (w : Worker) → StandsThere shop workers k w
-    → IsDone shop.pool.now k w.seat
-worker_done shop workers k w there =
-    done_seat shop.pool.now w.turns 0 k w.seat there.stands.works
+pub worker_done : (shared : Shared) (workers k : ℕ) (w : Worker) → StandsThere shared workers k w
+    → IsDone shared.pool.now k w.seat
+worker_done shared workers k w there =
+    done_seat shared.pool.now w.turns 0 k w.seat there.stands.works
     (there.stands.lane ∙ ap (λ n. Some n) there.number)

@@ -11,7 +11,7 @@ use Rattle.seat_work.specs.Changes.{times}
 use Rattle.shared_pool.specs.declared.seat.PoolSeat.{PoolSeat}
 use Rattle.shared_pool.specs.Closing.{note_of}
 use Rattle.shared_pool.specs.SeatViews.{view_of}
-use Rattle.frame_hash.specs.declared.shop.Shop.{Shop}
+use Rattle.frame_hash.specs.declared.shared.Shared.{Shared}
 use Rattle.frame_hash.specs.declared.worker.Work.TheVariants.{Done}
 use Rattle.frame_hash.specs.declared.worker.Worker.{Worker}
 use Rattle.frame_hash.specs.Takes.{CountsNone}
@@ -30,8 +30,8 @@ no_log [] lane h = refl
 no_log (s ∷ seats) zero h = absurd (omega (arith, h))
 no_log (s ∷ seats) (suc lane) h = no_log seats lane (omega (arith, h))
 
-module _ (shop : Shop) (d : Cutter) (ws : List Worker) (seats : List PoolSeat) (all : AreTogether shop d ws seats)
-    (read : List ℕ) (cutter : CutterStands shop d read) (over : d.stage ≡ Over)
+module _ (shared : Shared) (d : Cutter) (ws : List Worker) (seats : List PoolSeat) (all : AreTogether shared d ws seats)
+    (read : List ℕ) (cutter : CutterStands shared d read) (over : d.stage ≡ Over)
     (done : All (λ (w : Worker). w.work ≡ Done) ws) where
   no_pieces : cutter.pieces ≡ []
   no_pieces = (subst (λ s. IsUnderway s d read cutter.handed cutter.pieces) over cutter.underway).1
@@ -53,7 +53,7 @@ module _ (shop : Shop) (d : Cutter) (ws : List Worker) (seats : List PoolSeat) (
       ⊎_elim (λ mine. subst (λ (x : PoolSeat). CountsNone (view_of x)) mine.2
       (all.stand lane mine.0 mine.1).stands.taken.even)
       (λ last. subst (λ (x : PoolSeat). CountsNone (view_of x)) last.1 cutter_counts)
-      (either_seat shop d ws seats all lane s e)
+      (either_seat shared d ws seats all lane s e)
 
   -- what the cutter posted
   from_cutter : (to : ℕ) → length (posted (Mail d.workers to) (map note_of (notes_of d.seat)))
@@ -65,12 +65,12 @@ module _ (shop : Shop) (d : Cutter) (ws : List Worker) (seats : List PoolSeat) (
             let w = there.0 in
             let stands = all.stand to w there.1 in
             let joins = all.joins to w there.1 in
-            let over_is = done_there shop d ws seats all read cutter over done to w there.1 in
-            let sent = (sent_is shop d read cutter over to w low stands over_is joins).count in
-            let taken = (taken_is shop d read cutter over to w low stands over_is joins).count in
-            let many = as_many shop d read cutter over to w low stands over_is joins in
+            let over_is = done_there shared d ws seats all read cutter over done to w there.1 in
+            let sent = (sent_is shared d read cutter over to w low stands over_is joins).count in
+            let taken = (taken_is shared d read cutter over to w low stands over_is joins).count in
+            let many = as_many shared d read cutter over to w low stands over_is joins in
             let log = ap (λ l. length (fetched (Mail d.workers to) l))
-            (log_is seats to w.seat (seat_of shop d ws seats all to w there.1)) in
+            (log_is seats to w.seat (seat_of shared d ws seats all to w there.1)) in
             omega (arith, sent, taken, many, log))
         | inr high ↦ (let none = (cutter.others to high).count in omega (arith, none))
       ]
@@ -89,7 +89,7 @@ module _ (shop : Shop) (d : Cutter) (ws : List Worker) (seats : List PoolSeat) (
             let mail = subst (λ (n : ℕ). length (posted (Mail n to) (map note_of (notes_of d.seat)))
             ≤ length (fetched (Mail n to) (of_lane (logs_of seats) to))) (sym last.0) (from_cutter to) in
             omega (arith, log, same, mail)))
-            (either_seat shop d ws seats all from there.0 there.1))
+            (either_seat shared d ws seats all from there.0 there.1))
         | inr beyond ↦
             (let none = ap (λ l. length (posted (Mail from to) l)) (no_log seats from beyond) in
             omega (arith, none))

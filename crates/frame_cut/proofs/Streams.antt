@@ -8,7 +8,7 @@ use Rattle.shared_pool.specs.Seated.{AreDone, parts_in}
 use Rattle.shared_pool.specs.Seats.{IsPoolSeat}
 use Rattle.text_ends.specs.Spans.{SourceSpan, source_span}
 use Rattle.work_table.specs.Places.{EachCame}
-use Rattle.frame_hash.specs.declared.shop.Shop.{Shop}
+use Rattle.frame_hash.specs.declared.shared.Shared.{Shared}
 use Rattle.frame_hash.specs.declared.worker.Work.TheVariants.{Done}
 use Rattle.frame_hash.specs.declared.worker.Worker.{Worker}
 use Rattle.frame_hash.specs.Standing.{WorkerCame}
@@ -20,7 +20,7 @@ use Rattle.frame_cutter.specs.Standing.{CutterCame, is_fault}
 use Rattle.frame_cut.specs.declared.closing.StreamEnd.{StreamEnd}
 use Rattle.frame_cut.specs.declared.openings.Opened.{Opened}
 use Rattle.frame_cut.specs.Closed.{AreSpent}
-use Rattle.frame_cut.specs.Tellings.{HasEnds, HasGot, HasTold, IsOpen, IsShopOf}
+use Rattle.frame_cut.specs.Tellings.{HasEnds, HasGot, HasTold, IsOpen, IsSharedOf}
 use Rattle.frame_cut.proofs.Answered.{no_fault, told_fault, told_of_stream}
 use Rattle.frame_cut.proofs.Running.{HasRun, has_ends, has_run, queues_many}
 use Rattle.frame_cut.proofs.SpentLaws.{all_spent}
@@ -42,38 +42,38 @@ faulty Whole h = absurd (h refl)
 faulty (Refused why) h = absurd (h refl)
 faulty Fault h = refl
 
-module _ {S : Type 0} (left : S → Option (List ℕ)) (faults : S → ℕ) (shop : Shop) (workers block : ℕ) (o : Opened)
-    (opened : IsOpen workers block o) (same : IsShopOf shop o) (old new : S) (d : Cutter)
-    (came : CutterCame left faults shop old new o.cutter d) (ws : List Worker)
-    (each : EachCame (WorkerCame shop) o.workers.items ws) (count : length ws ≡ length o.workers.items) where
+module _ {S : Type 0} (left : S → Option (List ℕ)) (faults : S → ℕ) (shared : Shared) (workers block : ℕ) (o : Opened)
+    (opened : IsOpen workers block o) (same : IsSharedOf shared o) (old new : S) (d : Cutter)
+    (came : CutterCame left faults shared old new o.cutter d) (ws : List Worker)
+    (each : EachCame (WorkerCame shared) o.workers.items ws) (count : length ws ≡ length o.workers.items) where
   abbrev src : SourceSpan
   src = source_span left faults old new
 
-  run : HasRun shop d ws
-  run = has_run shop workers block o opened same d came.workers ws each count
+  run : HasRun shared d ws
+  run = has_run shared workers block o opened same d came.workers ws each count
 
-  pub run_many : length ws ≡ length shop.queues.now
-  run_many = queues_many shop d came.read ws came.stands run
+  pub run_many : length ws ≡ length shared.queues.now
+  run_many = queues_many shared d came.read ws came.stands run
 
-  pub run_ends : (k : ℕ) (w : Worker) → slice_get ws k ≡ Some w → HasEnds shop.queues.now d.ends.items k w.jobs
-  run_ends = has_ends shop d came.read ws came.stands run
+  pub run_ends : (k : ℕ) (w : Worker) → slice_get ws k ≡ Some w → HasEnds shared.queues.now d.ends.items k w.jobs
+  run_ends = has_ends shared d came.read ws came.stands run
 
   module _ (seats : List PoolSeat) (seats_are : seats ≡ map (λ w. w.seat) ws ++ d.seat ∷ [])
       (joins : (k : ℕ) (w : Worker) → slice_get ws k ≡ Some w → HasGot d.ends.items k w.jobs) where
-    all : AreTogether shop d ws seats
+    all : AreTogether shared d ws seats
     all = record { seats_are = seats_are; many = run.many; stand = run.stand; joins = joins }
 
-    pub run_seats : All (IsPoolSeat shop.pool.now) seats
-    run_seats = all_seats shop d ws seats all came.read came.stands
+    pub run_seats : All (IsPoolSeat shared.pool.now) seats
+    run_seats = all_seats shared d ws seats all came.read came.stands
 
-    pub run_done : AreDone shop.pool.now seats
-    run_done = all_done shop d ws seats all came.read came.stands
+    pub run_done : AreDone shared.pool.now seats
+    run_done = all_done shared d ws seats all came.read came.stands
 
     module _ {A E : Type 0} (ended : Result A E)
         (finished : OnOk ended ((d.stage ≡ Over) × All (λ (w : Worker). w.work ≡ Done) ws)) where
       pub run_spent : OnOk ended (AreSpent seats)
       run_spent =
-          follows ended (λ f. all_spent shop d ws seats all came.read came.stands f.0 f.1) finished
+          follows ended (λ f. all_spent shared d ws seats all came.read came.stands f.0 f.1) finished
 
       module _ (shape : Shape) (told : StreamEnd) (hashes : told.hashes.items ≡ map (λ w. w.hashes) ws)
           (verdict : (told.verdict ≡ d.verdict) × (told.frames ≡ d.frames)) where
@@ -81,7 +81,7 @@ module _ {S : Type 0} (left : S → Option (List ℕ)) (faults : S → ℕ) (sho
         told_closed : (r : Result A E) → OnOk r ((d.stage ≡ Over) × All (λ (w : Worker). w.work ≡ Done) ws)
             → (OnErr r ⊥) → AreWhole shape (parts_in seats) → HasTold told.verdict told block src
         told_closed (Ok a) f none whole =
-            told_of_stream left faults shop old new o.cutter d came block opened.long f.0 told ws seats shape all
+            told_of_stream left faults shared old new o.cutter d came block opened.long f.0 told ws seats shape all
             f.1 whole hashes verdict.1
             verdict.0
         told_closed (Err e) f none whole = absurd none
@@ -91,7 +91,7 @@ module _ {S : Type 0} (left : S → Option (List ℕ)) (faults : S → ℕ) (sho
             → (is_fault told.verdict ≡ false → OnErr closed ⊥) → HasTold told.verdict told block src
         told_by (Ok b) well whole sound = told_closed ended finished well whole
         told_by (Err e) well whole sound =
-            told_fault left faults shop old new o.cutter d came block opened.long told verdict.0
+            told_fault left faults shared old new o.cutter d came block opened.long told verdict.0
             (faulty told.verdict sound)
 
         -- what is answered
@@ -107,4 +107,5 @@ module _ {S : Type 0} (left : S → Option (List ℕ)) (faults : S → ℕ) (sho
         pub run_none : {G : Type 0} (answer : Result StreamEnd G) → OnErr answer (is_fault told.verdict ≡ false)
             → OnErr answer (faults new ≡ faults old)
         run_none (Ok a) none = tt
-        run_none (Err e) none = no_fault left faults shop old new o.cutter d came block opened.long told verdict.0 none
+        run_none (Err e) none = no_fault left faults shared old new o.cutter d came block opened.long told verdict.0
+            none

@@ -12,7 +12,7 @@ use Rattle.shared_pool.specs.Seated.{AreDone, IsDone, parts_in}
 use Rattle.shared_pool.specs.Seats.{IsPoolSeat}
 use Rattle.frame_core.specs.Frames.{frames_of}
 use Rattle.frame_hash.specs.declared.hashes.HashOf.{HashOf}
-use Rattle.frame_hash.specs.declared.shop.Shop.{Shop}
+use Rattle.frame_hash.specs.declared.shared.Shared.{Shared}
 use Rattle.frame_hash.specs.declared.worker.Work.TheVariants.{Done}
 use Rattle.frame_hash.specs.declared.worker.Worker.{Worker}
 use Rattle.frame_hash.specs.Hashes.{hash_of}
@@ -32,14 +32,14 @@ use Rattle.frame_cut.proofs.WorkerEnds.{StandsThere, all_tell}
 
 -- the seats of these workers and of the cutter, each worker at its place, and what it got a front of what
 -- was sent to it
-pub record AreTogether (shop : Shop) (d : Cutter) (ws : List Worker) (seats : List PoolSeat) : Type 0 where
+pub record AreTogether (shared : Shared) (d : Cutter) (ws : List Worker) (seats : List PoolSeat) : Type 0 where
   pub seats_are : seats ≡ map (λ w. w.seat) ws ++ d.seat ∷ []
   pub many : length ws ≡ d.workers
-  pub stand : (k : ℕ) (w : Worker) → slice_get ws k ≡ Some w → StandsThere shop d.workers k w
+  pub stand : (k : ℕ) (w : Worker) → slice_get ws k ≡ Some w → StandsThere shared d.workers k w
   pub joins : (k : ℕ) (w : Worker) → slice_get ws k ≡ Some w → HasGot d.ends.items k w.jobs
 
-module _ (shop : Shop) (d : Cutter) (ws : List Worker) (seats : List PoolSeat)
-    (all : AreTogether shop d ws seats) where
+module _ (shared : Shared) (d : Cutter) (ws : List Worker) (seats : List PoolSeat)
+    (all : AreTogether shared d ws seats) where
   front : length (map (λ (w : Worker). w.seat) ws) ≡ d.workers
   front = length-map ws (λ (w : Worker). w.seat) ∙ all.many
 
@@ -78,7 +78,7 @@ module _ (shop : Shop) (d : Cutter) (ws : List Worker) (seats : List PoolSeat)
       (λ last. absurd (ne last.0)) (either_seat lane s e)
 
   -- all of them have nothing in hand
-  pub all_done : (read : List ℕ) → CutterStands shop d read → AreDone shop.pool.now seats
+  pub all_done : (read : List ℕ) → CutterStands shared d read → AreDone shared.pool.now seats
   all_done read cutter = record {
     many =
         (let a = ap (λ (ss : List PoolSeat). length ss) all.seats_are in
@@ -86,27 +86,27 @@ module _ (shop : Shop) (d : Cutter) (ws : List Worker) (seats : List PoolSeat)
         let e = cutter.stands.lanes in omega (arith, a, b, c, e));
     each = λ lane low e.
         (let s = get_or seats lane e in
-        ⊎_elim (λ mine. subst (IsDone shop.pool.now lane) mine.2
-        (worker_done shop d.workers lane mine.0 (all.stand lane mine.0 mine.1)))
-        (λ last. subst (λ (x : ℕ × PoolSeat). IsDone shop.pool.now x.0 x.1) (λ i. (sym last.0 i, last.1 i))
-        (cutter_done shop d read cutter))
+        ⊎_elim (λ mine. subst (IsDone shared.pool.now lane) mine.2
+        (worker_done shared d.workers lane mine.0 (all.stand lane mine.0 mine.1)))
+        (λ last. subst (λ (x : ℕ × PoolSeat). IsDone shared.pool.now x.0 x.1) (λ i. (sym last.0 i, last.1 i))
+        (cutter_done shared d read cutter))
         (either_seat lane s (slice_get-get_or seats lane e (within lane low))));
   }
     where
-      within : (lane : ℕ) → lane < shop.pool.now.table.layout.shape.lanes → lane < length seats
+      within : (lane : ℕ) → lane < shared.pool.now.table.layout.shape.lanes → lane < length seats
       within lane low =
           let a = ap (λ (ss : List PoolSeat). length ss) all.seats_are in
           let b = length-append (map (λ (w : Worker). w.seat) ws) (d.seat ∷ []) in let c = front in
           let e = cutter.stands.lanes in omega (arith, a, b, c, e, low)
 
-  pub all_seats : (read : List ℕ) → CutterStands shop d read → All (IsPoolSeat shop.pool.now) seats
+  pub all_seats : (read : List ℕ) → CutterStands shared d read → All (IsPoolSeat shared.pool.now) seats
   all_seats read cutter lane e low =
       let s = get_or seats lane e in
-      ⊎_elim (λ mine. subst (IsPoolSeat shop.pool.now) mine.2 (all.stand lane mine.0 mine.1).stands.works.seat)
-      (λ last. subst (IsPoolSeat shop.pool.now) last.1 cutter.stands.works.seat)
+      ⊎_elim (λ mine. subst (IsPoolSeat shared.pool.now) mine.2 (all.stand lane mine.0 mine.1).stands.works.seat)
+      (λ last. subst (IsPoolSeat shared.pool.now) last.1 cutter.stands.works.seat)
       (either_seat lane s (slice_get-get_or seats lane e low))
 
-  module _ (read : List ℕ) (cutter : CutterStands shop d read) (over : d.stage ≡ Over)
+  module _ (read : List ℕ) (cutter : CutterStands shared d read) (over : d.stage ≡ Over)
       (done : All (λ (w : Worker). w.work ≡ Done) ws) where
     pub done_there : (k : ℕ) (w : Worker) → slice_get ws k ≡ Some w → w.work ≡ Done
     done_there k w e =
@@ -118,7 +118,7 @@ module _ (shop : Shop) (d : Cutter) (ws : List Worker) (seats : List PoolSeat)
           → w.hashes.items ≡ to_tell (share_of d.workers k 0 cutter.handed)
       each_told k w e =
           let within = slice_get_within ws k w e in
-          all_tell shop d read cutter over k w (omega (arith, within, all.many)) (all.stand k w e) (done_there k w e)
+          all_tell shared d read cutter over k w (omega (arith, within, all.many)) (all.stand k w e) (done_there k w e)
           (all.joins k w e) shape seats whole cutter_seat others_write (seat_of k w e)
 
       module _ (told : StreamEnd) (hashes : told.hashes.items ≡ map (λ w. w.hashes) ws)

@@ -10,7 +10,7 @@ use Rattle.shared_pool.specs.declared.seat.PoolSeat.{PoolSeat}
 use Rattle.shared_pool.specs.Closing.{AreWhole}
 use Rattle.shared_pool.specs.Seated.{parts_in}
 use Rattle.shared_pool.specs.SeatViews.{view_of}
-use Rattle.frame_hash.specs.declared.shop.Shop.{Shop}
+use Rattle.frame_hash.specs.declared.shared.Shared.{Shared}
 use Rattle.frame_hash.specs.declared.worker.Work.{Work}
 use Rattle.frame_hash.specs.declared.worker.Work.TheVariants.{Done}
 use Rattle.frame_hash.specs.declared.worker.Worker.{Worker}
@@ -32,8 +32,8 @@ use Rattle.frame_cut.proofs.ShareLaws.{all_got}
 -- ---- One worker.
 
 -- the worker stands at its place
-pub record StandsThere (shop : Shop) (workers k : ℕ) (w : Worker) : Type 0 where
-  pub stands : WorkerStands shop w
+pub record StandsThere (shared : Shared) (workers k : ℕ) (w : Worker) : Type 0 where
+  pub stands : WorkerStands shared w
   pub number : w.number ≡ k
   pub cutter : w.cutter ≡ workers
 
@@ -44,8 +44,8 @@ over_pieces workers worker handed pieces =
     ap (λ ps. pieces_of (share_of workers worker 0 handed) ++ ps) (none-either (length handed % workers == worker))
     ∙ append-nil (pieces_of (share_of workers worker 0 handed))
 
-module _ (shop : Shop) (d : Cutter) (read : List ℕ) (cutter : CutterStands shop d read) (over : d.stage ≡ Over)
-    (k : ℕ) (w : Worker) (below : k < d.workers) (stands : StandsThere shop d.workers k w) (done : w.work ≡ Done)
+module _ (shared : Shared) (d : Cutter) (read : List ℕ) (cutter : CutterStands shared d read) (over : d.stage ≡ Over)
+    (k : ℕ) (w : Worker) (below : k < d.workers) (stands : StandsThere shared d.workers k w) (done : w.work ≡ Done)
     (joins : HasGot d.ends.items k w.jobs) where
   own : IsOver (view w.jobs).got stands.stands.pieces w.hashes.items
   own = subst (λ (x : Work). IsAtWork x (view w.jobs).got stands.stands.pieces w.hashes.items) done stands.stands.work

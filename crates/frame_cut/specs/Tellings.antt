@@ -9,7 +9,7 @@ use Rattle.job_queue.specs.declared.jobs.Job.{Job}
 use Rattle.job_queue.specs.declared.jobs.JobLog.{JobLog}
 use Rattle.job_queue.specs.Jobs.{IsReceiver, IsSender}
 use Rattle.frame_core.specs.Frames.{frames_of}
-use Rattle.frame_hash.specs.declared.shop.Shop.{Shop}
+use Rattle.frame_hash.specs.declared.shared.Shared.{Shared}
 use Rattle.frame_hash.specs.declared.worker.Worker.{Worker}
 use Rattle.frame_hash.specs.Hashes.{hash_of}
 use Rattle.frame_hash.specs.Standing.{WorkerStands}
@@ -39,13 +39,13 @@ HasTold (Refused why) told block src = (bytes : List ℕ) × IsRefused block src
 HasTold Fault told block src = Rose src.faults src.faults_then
 
 -- the pool and the queues that the cutter and its workers share
-pub record IsShopOf (shop : Shop) (o : Opened) : Type 0 where
-  pub pool : shop.pool.now ≡ o.pool
-  pub queues : shop.queues.now ≡ o.queues.items
+pub record IsSharedOf (shared : Shared) (o : Opened) : Type 0 where
+  pub pool : shared.pool.now ≡ o.pool
+  pub queues : shared.queues.now ≡ o.queues.items
 
 -- the worker stands at its place and got nothing yet
-pub record IsIdle (shop : Shop) (workers k : ℕ) (w : Worker) : Type 0 where
-  pub stands : WorkerStands shop w
+pub record IsIdle (shared : Shared) (workers k : ℕ) (w : Worker) : Type 0 where
+  pub stands : WorkerStands shared w
   pub number : w.number ≡ k
   pub cutter : w.cutter ≡ workers
   pub idle : (view w.jobs).got ≡ []
@@ -53,13 +53,13 @@ pub record IsIdle (shop : Shop) (workers k : ℕ) (w : Worker) : Type 0 where
 -- a pool for so many workers, at which they and the cutter stand, with nothing read yet and a block
 -- of so many bytes
 pub record IsOpen (workers block : ℕ) (o : Opened) : Type 0 where
-  pub cutter : (shop : Shop) → IsShopOf shop o → CutterStands shop o.cutter []
+  pub cutter : (shared : Shared) → IsSharedOf shared o → CutterStands shared o.cutter []
   pub count : o.cutter.workers ≡ workers
   pub long : o.cutter.block ≡ block
   pub some : 0 < workers
   pub many : length o.workers.items ≡ workers
-  pub ready : (shop : Shop) → IsShopOf shop o → (k : ℕ) (w : Worker) →
-      slice_get o.workers.items k ≡ Some w → IsIdle shop workers k w
+  pub ready : (shared : Shared) → IsSharedOf shared o → (k : ℕ) (w : Worker) →
+      slice_get o.workers.items k ≡ Some w → IsIdle shared workers k w
   pub seats : (o.seats.items ≡ []) × (workers + 1 ≤ vec_capacity o.seats)
   pub told : (o.told.items ≡ []) × (workers ≤ vec_capacity o.told)
   -- nothing was read

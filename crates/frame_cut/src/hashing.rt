@@ -19,7 +19,7 @@ use crate::closing::{StreamEnd, close, gather};
 use crate::openings::{Opened, open};
 use crate::pages::touch_pages;
 use frame_cutter::{Cutter, Cutting, Verdict};
-use frame_hash::{Shop, Worker};
+use frame_hash::{Shared, Worker};
 use frame_words::CutOptions;
 use shared_pool::{PoolSeat, SharedPool};
 use std::alloc::{AllocError, Global};
@@ -50,11 +50,11 @@ pub fn hash_stream<R: Threads + Wait + Sync, S: Source>(
         mut seats,
         told,
     } = open(alloc, options)?;
-    let shop = Shop {
+    let shared = Shared {
         pool: &pool,
         queues: &queues,
     };
-    let (cutter, workers, ended) = step_all(rt, alloc, &shop, source, cutter, workers);
+    let (cutter, workers, ended) = step_all(rt, alloc, &shared, source, cutter, workers);
     let told = gather(&queues, workers, cutter, &mut seats, told);
     let closed = close_or_abandon(rt, alloc, pool, seats, ended);
     told_or_none(told, closed)
@@ -64,16 +64,16 @@ pub fn hash_stream<R: Threads + Wait + Sync, S: Source>(
 fn step_all<R: Threads + Wait + Sync, S: Source>(
     rt: &R,
     alloc: Global,
-    shop: &Shop,
+    shared: &Shared,
     source: &mut S,
     mut cutter: Cutter,
     workers: Vec<Worker>,
 ) -> (Cutter, Vec<Worker>, Result<(), AllocError>)
-    requires cutter { CutterStands shop.now cutter [] }
+    requires cutter { CutterStands shared.now cutter [] }
     requires begun { (cutter.last ≡ false) × (cutter.verdict ≡ Verdict.Whole) }
-    requires workers { All (WorkerStands shop.now) workers.items }
-    ensures cutter { CutterCame S.left S.faults shop.now source.old source.new cutter result.0 }
-    ensures workers { EachCame (WorkerCame shop.now) workers.items result.1.items }
+    requires workers { All (WorkerStands shared.now) workers.items }
+    ensures cutter { CutterCame S.left S.faults shared.now source.old source.new cutter result.0 }
+    ensures workers { EachCame (WorkerCame shared.now) workers.items result.1.items }
     ensures count { vec_len result.1 ≡ vec_len workers }
     ensures finished { OnOk result.2 ((result.0.stage ≡ Stage.Over)
         × All (λ w. w.work ≡ Work.Done) result.1.items) }
@@ -83,7 +83,7 @@ fn step_all<R: Threads + Wait + Sync, S: Source>(
         source,
         cutter: &mut cutter,
     };
-    let (workers, ended) = step_beside(rt, alloc, shop, &mut cutting, workers, threads);
+    let (workers, ended) = step_beside(rt, alloc, shared, &mut cutting, workers, threads);
     let Cutting {
         source: _,
         cutter: _,

@@ -3,26 +3,26 @@ use Rattle.std.proofs.Common.{◌≡◌, ℕ, true, false, List, ◌++◌, sym, 
 use Rattle.std.specs.Io.KnownBytes.{Consumes, IsAtEnd}
 use Rattle.std.proofs.KnownBytes.{Consumes-trans}
 use Rattle.text_ends.specs.Ends.{Rose}
-use Rattle.frame_hash.specs.declared.shop.Shop.{Shop}
+use Rattle.frame_hash.specs.declared.shared.Shared.{Shared}
 use Rattle.frame_cutter.specs.declared.cutter.Cutter.{Cutter}
 use Rattle.frame_cutter.specs.declared.stage.Stage.TheVariants.{Filling}
 use Rattle.frame_cutter.specs.Standing.{CutterCame, CutterStands, IsUnderway, SameCutter, is_fault}
 
 -- where it reads no read has failed
-pub no_fault : (shop : Shop) (d : Cutter) (read : List ℕ) → CutterStands shop d read → d.stage ≡ Filling
+pub no_fault : (shared : Shared) (d : Cutter) (read : List ℕ) → CutterStands shared d read → d.stage ≡ Filling
     → is_fault d.verdict ≡ false
-no_fault shop d read st filling =
+no_fault shared d read st filling =
     let u = subst (λ s. IsUnderway s d read st.handed st.pieces) filling st.underway in
     ap is_fault u.1.healthy
 
 -- ---- The cutter.
 
-module _ {S : Type 0} (left : S → Option (List ℕ)) (faults : S → ℕ) (shop : Shop) (old mid new : S)
-    (first d e : Cutter) (came : CutterCame left faults shop old mid first d) where
+module _ {S : Type 0} (left : S → Option (List ℕ)) (faults : S → ℕ) (shared : Shared) (old mid new : S)
+    (first d e : Cutter) (came : CutterCame left faults shared old mid first d) where
   -- the cutter went on, and the source wasn't read
   pub worked : new ≡ mid
-      → ((read : List ℕ) → CutterStands shop d read → CutterStands shop e read) → SameCutter d e
-      → CutterCame left faults shop old new first e
+      → ((read : List ℕ) → CutterStands shared d read → CutterStands shared e read) → SameCutter d e
+      → CutterCame left faults shared old new first e
   worked unread stands same = record {
     read = came.read;
     stands = stands came.read came.stands;
@@ -43,12 +43,12 @@ module _ {S : Type 0} (left : S → Option (List ℕ)) (faults : S → ℕ) (sho
 
   -- a read that did not fail: of bytes more, or of none at the end
   module _ (sound : is_fault d.verdict ≡ false) (bytes : List ℕ)
-      (stands : CutterStands shop e (came.read ++ bytes)) (workers : e.workers ≡ d.workers)
+      (stands : CutterStands shared e (came.read ++ bytes)) (workers : e.workers ≡ d.workers)
       (long : e.block ≡ d.block)
       (still : is_fault e.verdict ≡ false)
       (consumes : Consumes (left mid) (left new) bytes)
       (faultless : faults new ≡ faults mid) where
-    pub read_on : (e.last ≡ true → IsAtEnd (left new)) → CutterCame left faults shop old new first e
+    pub read_on : (e.last ≡ true → IsAtEnd (left new)) → CutterCame left faults shared old new first e
     read_on at_end = record {
       read = came.read ++ bytes;
       stands = stands;
@@ -65,9 +65,9 @@ module _ {S : Type 0} (left : S → Option (List ℕ)) (faults : S → ℕ) (sho
     }
 
   -- and one that did
-  pub read_failed : is_fault d.verdict ≡ false → CutterStands shop e came.read
+  pub read_failed : is_fault d.verdict ≡ false → CutterStands shared e came.read
       → e.workers ≡ d.workers → e.block ≡ d.block → is_fault e.verdict ≡ true
-      → Rose (faults mid) (faults new) → CutterCame left faults shop old new first e
+      → Rose (faults mid) (faults new) → CutterCame left faults shared old new first e
   read_failed sound stands workers long failed rose = record {
     read = came.read;
     stands = stands;

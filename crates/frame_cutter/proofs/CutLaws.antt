@@ -14,7 +14,7 @@ use Rattle.shared_pool.specs.SeatViews.{view_of}
 use Rattle.frame_core.specs.declared.frame.FrameNo.{FrameNo}
 use Rattle.frame_core.specs.Frames.{failure_of, frames_of, refusal}
 use Rattle.frame_core.proofs.RefusalLaws.{refused-stays}
-use Rattle.frame_hash.specs.declared.shop.Shop.{Shop}
+use Rattle.frame_hash.specs.declared.shared.Shared.{Shared}
 use Rattle.frame_hash.specs.Told.{joined}
 use Rattle.frame_hash.specs.declared.turns.TheConstants.{RELEASE_TURNS}
 use Rattle.frame_slices.specs.declared.slicer.Found.{Found}
@@ -51,7 +51,7 @@ one-more block before part are size =
 
 -- ---- Where it stands.
 
-module _ (shop : Shop) (d : Cutter) (read : List ℕ) (st : CutterStands shop d read) (root : RootId) (used : ℕ)
+module _ (shared : Shared) (d : Cutter) (read : List ℕ) (st : CutterStands shared d read) (root : RootId) (used : ℕ)
     (cutting : d.stage ≡ Cutting root used) where
   pub cutting_at : IsUnderway (Cutting root used) d read st.handed st.pieces
   cutting_at = subst (λ (s : Stage). IsUnderway s d read st.handed st.pieces) cutting st.underway
@@ -74,20 +74,21 @@ module _ (shop : Shop) (d : Cutter) (read : List ℕ) (st : CutterStands shop d 
   -- ---- All finds are used, and its root is let go.
 
   module _ (all : length d.finds.items ≤ used) (seat : PoolSeat) (last : Bool)
-      (later : IsLater shop.pool.now d.seat seat)
-      (let_go : Proceeds shop.pool.now empty_hand RELEASE_TURNS 0 (once_less root last) d.seat seat)
+      (later : IsLater shared.pool.now d.seat seat)
+      (let_go : Proceeds shared.pool.now empty_hand RELEASE_TURNS 0 (once_less root last) d.seat seat)
       (enough : RELEASE_TURNS ≤ d.turns) where
-    went : HasGone shop.pool.now d.workers (d.turns - RELEASE_TURNS) d.moves (map (λ v. v.root) d.slices.items) d.seat
+    went : HasGone shared.pool.now d.workers (d.turns - RELEASE_TURNS) d.moves (map (λ v. v.root) d.slices.items) d.seat
         seat
     went =
-        gone_quiet shop.pool.now d.workers d.turns d.moves RELEASE_TURNS 0 (d.turns - RELEASE_TURNS) d.moves
+        gone_quiet shared.pool.now d.workers d.turns d.moves RELEASE_TURNS 0 (d.turns - RELEASE_TURNS) d.moves
         (once_less root last) d.seat seat st.stands.works st.stands.lane let_go (omega (arith, enough)) (omega arith)
         (root ∷ map (λ v. v.root) d.slices.items) (map (λ v. v.root) d.slices.items)
         (less_first root (map (λ v. v.root) d.slices.items) last) counts_here st.fresh later
 
     still : AreSlices (view_of seat).own.notes (Some d.workers) d.slices.items st.pieces
     still =
-        slices_then shop.pool.now d.workers (d.turns - RELEASE_TURNS) d.moves (map (λ v. v.root) d.slices.items) d.seat
+        slices_then shared.pool.now d.workers (d.turns - RELEASE_TURNS) d.moves (map (λ v. v.root) d.slices.items)
+        d.seat
         seat went d.slices.items st.pieces st.slices
 
     -- it was gone through up to its end, where the slicer is
@@ -112,12 +113,12 @@ module _ (shop : Shop) (d : Cutter) (read : List ℕ) (st : CutterStands shop d 
 
     -- the block isn't the last
     pub leaves : d.last ≡ false
-        → CutterStands shop
+        → CutterStands shared
         (moved_to d seat (d.turns - RELEASE_TURNS) d.moves d.finds d.last d.slicer d.slices Filling d.verdict) read
     leaves more =
         let at = cutting_at in
         let inside = at.2.0 in
-        moved shop d read st seat (d.turns - RELEASE_TURNS) d.moves d.finds d.last d.slicer d.slices Filling d.verdict
+        moved shared d read st seat (d.turns - RELEASE_TURNS) d.moves d.finds d.last d.slicer d.slices Filling d.verdict
         st.pieces went (keeps_told Filling refl (λ worker. refl)) read still (omega arith) (
           more,
           record { frames = frames-are; healthy = at.2.1.1.healthy },
@@ -129,14 +130,14 @@ module _ (shop : Shop) (d : Cutter) (read : List ℕ) (st : CutterStands shop d 
     -- the block is the last
     pub leaves_last : (verdict : Verdict) → d.last ≡ true
         → ((bytes own : List ℕ) → HasCut d.slicer bytes own → verdict ≡ verdict_of (failure_of bytes))
-        → CutterStands shop
+        → CutterStands shared
         (moved_to d seat (d.turns - RELEASE_TURNS) d.moves d.finds d.last d.slicer d.slices LettingGo verdict) read
     leaves_last verdict end told =
         let at = cutting_at in
         let inside = at.2.0 in
         let e : Cutter =
         moved_to d seat (d.turns - RELEASE_TURNS) d.moves d.finds d.last d.slicer d.slices LettingGo verdict in
-        moved shop d read st seat (d.turns - RELEASE_TURNS) d.moves d.finds d.last d.slicer d.slices LettingGo verdict
+        moved shared d read st seat (d.turns - RELEASE_TURNS) d.moves d.finds d.last d.slicer d.slices LettingGo verdict
         st.pieces went (keeps_told LettingGo refl (λ worker. refl)) read still (omega arith)
         (subst (λ v. HasVerdict v e read st.handed) (sym (told read (joined st.pieces) cut-is))
         (ended_so e read read st.handed end refl cut-is.sound frames-are
@@ -153,15 +154,15 @@ module _ (shop : Shop) (d : Cutter) (read : List ℕ) (st : CutterStands shop d 
 
   -- there is room for one slice more
   pub reserved : (slices : Vec ViewData) → slices.items ≡ d.slices.items
-      → CutterStands shop
+      → CutterStands shared
       (moved_to d d.seat d.turns d.moves d.finds d.last d.slicer slices d.stage d.verdict) read
   reserved slices items =
       let at = cutting_at in
       let inside = at.2.0 in
       let between = at.2.1.1 in
       let many = ap (λ xs. length xs) items in
-      moved shop d read st d.seat d.turns d.moves d.finds d.last d.slicer slices d.stage d.verdict st.pieces
-      (gone_none shop.pool.now d.workers d.turns d.moves (roots_at d.stage slices.items) d.seat st.stands.works
+      moved shared d read st d.seat d.turns d.moves d.finds d.last d.slicer slices d.stage d.verdict st.pieces
+      (gone_none shared.pool.now d.workers d.turns d.moves (roots_at d.stage slices.items) d.seat st.stands.works
       st.stands.lane st.fresh
       (subst (λ (xs : List ViewData). CountsJust (roots_at d.stage xs) (view_of d.seat)) (sym items) st.counts))
       (record { before = ap gone_of cutting; behind = ap gone_of cutting; ends = λ worker below. refl }) read

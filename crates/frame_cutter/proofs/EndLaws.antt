@@ -17,7 +17,7 @@ use Rattle.shared_pool.specs.SeatViews.{view_of}
 use Rattle.job_queue.specs.declared.jobs.Job.TheVariants.{End}
 use Rattle.frame_core.specs.declared.frame.FrameNo.{FrameNo}
 use Rattle.frame_core.specs.declared.frame.FrameNo.TheVariants as nos
-use Rattle.frame_hash.specs.declared.shop.Shop.{Shop}
+use Rattle.frame_hash.specs.declared.shared.Shared.{Shared}
 use Rattle.frame_hash.specs.declared.turns.TheConstants.{RELEASE_TURNS}
 use Rattle.frame_cutter.specs.declared.cutter.Cutter.{Cutter}
 use Rattle.frame_cutter.specs.declared.stage.Stage.TheVariants.{LettingGo, Ending, Over}
@@ -80,7 +80,8 @@ module _ (d e : Cutter) (same : e.last ≡ d.last) (block : e.block ≡ d.block)
 
 -- ---- A slice is let go, or none is left.
 
-module _ (shop : Shop) (d : Cutter) (read : List ℕ) (st : CutterStands shop d read) (letting : d.stage ≡ LettingGo)
+module _ (shared : Shared) (d : Cutter) (read : List ℕ) (st : CutterStands shared d read)
+    (letting : d.stage ≡ LettingGo)
     (popped : Vec ViewData) where
   -- the turns that are left behind it
   abbrev left : ℕ
@@ -107,26 +108,27 @@ module _ (shop : Shop) (d : Cutter) (read : List ℕ) (st : CutterStands shop d 
     has_slice = counts_there (view_of d.seat) slice.root (roots_of popped.items) [] counts-last
 
     pub lets_go : (seat : PoolSeat) (last : Bool) → RELEASE_TURNS ≤ d.turns
-        → Proceeds shop.pool.now empty_hand RELEASE_TURNS 0 (once_less slice.root last) d.seat seat
-        → IsLater shop.pool.now d.seat seat
-        → CutterStands shop (moved_to d seat left d.moves d.finds d.last d.slicer popped d.stage d.verdict) read
+        → Proceeds shared.pool.now empty_hand RELEASE_TURNS 0 (once_less slice.root last) d.seat seat
+        → IsLater shared.pool.now d.seat seat
+        → CutterStands shared (moved_to d seat left d.moves d.finds d.last d.slicer popped d.stage d.verdict) read
     lets_go seat last enough proceeds later =
-        subst (λ s. CutterStands shop
+        subst (λ s. CutterStands shared
         (moved_to d seat left d.moves d.finds d.last d.slicer popped s d.verdict) read) (sym letting)
-        (moved shop d read st seat left d.moves d.finds d.last d.slicer popped LettingGo d.verdict
+        (moved shared d read st seat left d.moves d.finds d.last d.slicer popped LettingGo d.verdict
         (take (length popped.items) st.pieces) went lets-told read
         (front_slices (view_of seat).own.notes (Some d.workers) popped.items slice st.pieces
         (subst (λ (vs : List ViewData). AreSlices (view_of seat).own.notes (Some d.workers) vs st.pieces) items
-        (slices_then shop.pool.now d.workers left d.moves (roots_of popped.items) d.seat seat went
+        (slices_then shared.pool.now d.workers left d.moves (roots_of popped.items) d.seat seat went
         d.slices.items st.pieces st.slices)))
         (let a = ap (λ (vs : List ViewData). length vs) items in let b = length-append popped.items (slice ∷ []) in
         omega (arith, a, b))
         (verdict_same d (moved_to d seat left d.moves d.finds d.last d.slicer popped LettingGo d.verdict) refl refl
         read st.handed d.verdict verdict-is))
       where
-        went : HasGone shop.pool.now d.workers left d.moves (roots_of popped.items) d.seat seat
+        went : HasGone shared.pool.now d.workers left d.moves (roots_of popped.items) d.seat seat
         went =
-            gone_quiet shop.pool.now d.workers d.turns d.moves RELEASE_TURNS 0 left d.moves (once_less slice.root last)
+            gone_quiet shared.pool.now d.workers d.turns d.moves RELEASE_TURNS 0 left d.moves
+            (once_less slice.root last)
             d.seat seat st.stands.works st.stands.lane proceeds (omega (arith, enough)) (omega arith)
             (roots_of popped.items ++ slice.root ∷ []) (roots_of popped.items)
             (less_last slice.root (roots_of popped.items) last) counts-last st.fresh later
@@ -149,11 +151,11 @@ module _ (shop : Shop) (d : Cutter) (read : List ℕ) (st : CutterStands shop d 
     same_items : popped.items ≡ d.slices.items
     same_items = same ∙ sym none
 
-    pub none_left : CutterStands shop
+    pub none_left : CutterStands shared
         (moved_to d d.seat d.turns d.moves d.finds d.last d.slicer popped (Ending 0) d.verdict) read
     none_left =
-        moved shop d read st d.seat d.turns d.moves d.finds d.last d.slicer popped (Ending 0) d.verdict st.pieces
-        (gone_none shop.pool.now d.workers d.turns d.moves (roots_at (Ending 0) popped.items) d.seat st.stands.works
+        moved shared d read st d.seat d.turns d.moves d.finds d.last d.slicer popped (Ending 0) d.verdict st.pieces
+        (gone_none shared.pool.now d.workers d.turns d.moves (roots_at (Ending 0) popped.items) d.seat st.stands.works
         st.stands.lane st.fresh
         (subst (λ (vs : List ViewData). CountsJust (roots_of vs) (view_of d.seat)) (sym same_items) counts-before))
         starts-told read
@@ -168,7 +170,7 @@ module _ (shop : Shop) (d : Cutter) (read : List ℕ) (st : CutterStands shop d 
 
 -- ---- All workers are told.
 
-module _ (shop : Shop) (d : Cutter) (read : List ℕ) (st : CutterStands shop d read) (next : ℕ)
+module _ (shared : Shared) (d : Cutter) (read : List ℕ) (st : CutterStands shared d read) (next : ℕ)
     (ending : d.stage ≡ Ending next) where
   ending-is : IsUnderway (Ending next) d read st.handed st.pieces
   ending-is = subst (λ s. IsUnderway s d read st.handed st.pieces) ending st.underway
@@ -182,10 +184,10 @@ module _ (shop : Shop) (d : Cutter) (read : List ℕ) (st : CutterStands shop d 
           ap (λ (b : Bool). if b then End ∷ [] else []) (lt-ltb worker next (omega (arith, below, all)));
     })
 
-    pub over : CutterStands shop (record d { stage = Over }) read
+    pub over : CutterStands shared (record d { stage = Over }) read
     over =
-        moved shop d read st d.seat d.turns d.moves d.finds d.last d.slicer d.slices Over d.verdict st.pieces
-        (gone_none shop.pool.now d.workers d.turns d.moves (roots_at Over d.slices.items) d.seat st.stands.works
+        moved shared d read st d.seat d.turns d.moves d.finds d.last d.slicer d.slices Over d.verdict st.pieces
+        (gone_none shared.pool.now d.workers d.turns d.moves (roots_at Over d.slices.items) d.seat st.stands.works
         st.stands.lane st.fresh
         (subst (λ s. CountsJust (roots_at s d.slices.items) (view_of d.seat)) ending st.counts))
         all-told read st.slices (omega arith)

@@ -23,7 +23,7 @@ use Rattle.frame_core.specs.declared.frame.FrameNo.{FrameNo}
 use Rattle.frame_core.specs.declared.frame.FrameNo.TheVariants as nos
 use Rattle.frame_core.specs.Frames.{failure_of, refusal}
 use Rattle.frame_core.proofs.CountLaws.{failure-from_refusal}
-use Rattle.frame_hash.specs.declared.shop.Shop.{Shop}
+use Rattle.frame_hash.specs.declared.shared.Shared.{Shared}
 use Rattle.frame_hash.specs.declared.turns.TheConstants.{RELEASE_TURNS}
 use Rattle.frame_hash.specs.Told.{joined}
 use Rattle.frame_hash.proofs.QuietLaws.{post_nothing_on, quiet_posts}
@@ -64,7 +64,8 @@ met-by failure nos.Stream d e = tt
 
 -- ---- A cutter that is to read its next block.
 
-module _ (shop : Shop) (d : Cutter) (read : List ℕ) (st : CutterStands shop d read) (filling : d.stage ≡ Filling) where
+module _ (shared : Shared) (d : Cutter) (read : List ℕ) (st : CutterStands shared d read)
+    (filling : d.stage ≡ Filling) where
   -- the turns that are left behind it
   abbrev left : ℕ
   left = d.turns - FILL_TURNS
@@ -85,34 +86,34 @@ module _ (shop : Shop) (d : Cutter) (read : List ℕ) (st : CutterStands shop d 
       (record { before = refl; behind = refl; ends = λ worker below. refl })
 
   -- another list of finds, none of which counts yet
-  pub with_finds : (finds : Vec Found) → CutterStands shop (record d { finds = finds }) read
+  pub with_finds : (finds : Vec Found) → CutterStands shared (record d { finds = finds }) read
   with_finds finds =
-      subst (λ s. CutterStands shop
+      subst (λ s. CutterStands shared
       (moved_to d d.seat d.turns d.moves finds d.last d.slicer d.slices s d.verdict) read) (sym filling)
       (let b = reading.1 in
-      moved shop d read st d.seat d.turns d.moves finds d.last d.slicer d.slices Filling d.verdict st.pieces
-      (gone_none shop.pool.now d.workers d.turns d.moves (roots_at Filling d.slices.items) d.seat st.stands.works
+      moved shared d read st d.seat d.turns d.moves finds d.last d.slicer d.slices Filling d.verdict st.pieces
+      (gone_none shared.pool.now d.workers d.turns d.moves (roots_at Filling d.slices.items) d.seat st.stands.works
       st.stands.lane st.fresh counts-before)
       (tells-none Filling filling-plain) read st.slices (omega arith)
       (reading.0, record { frames = b.frames; healthy = b.healthy }, reading.2, reading.3))
 
   module _ (enough : FILL_TURNS + RELEASE_TURNS ≤ d.turns) (finds : Vec Found) (mid : PoolSeat) where
     -- no root was to be had
-    pub waits : (why : AllocNo) → IsLater shop.pool.now d.seat mid
-        → Proceeds shop.pool.now empty_hand 6 0 (refused why) d.seat mid
-        → CutterStands shop (moved_to d mid left d.moves finds d.last d.slicer d.slices d.stage d.verdict) read
+    pub waits : (why : AllocNo) → IsLater shared.pool.now d.seat mid
+        → Proceeds shared.pool.now empty_hand 6 0 (refused why) d.seat mid
+        → CutterStands shared (moved_to d mid left d.moves finds d.last d.slicer d.slices d.stage d.verdict) read
     waits why later proceeds =
-        subst (λ s. CutterStands shop
+        subst (λ s. CutterStands shared
         (moved_to d mid left d.moves finds d.last d.slicer d.slices s d.verdict) read) (sym filling)
         (let b = reading.1 in
         let went =
-        gone_quiet shop.pool.now d.workers d.turns d.moves 6 0 left d.moves (refused why) d.seat mid
+        gone_quiet shared.pool.now d.workers d.turns d.moves 6 0 left d.moves (refused why) d.seat mid
         st.stands.works st.stands.lane proceeds (omega (arith, enough)) (omega arith)
         (roots_at Filling d.slices.items) (roots_at Filling d.slices.items) (λ root. refl) counts-before st.fresh
         later in
-        moved shop d read st mid left d.moves finds d.last d.slicer d.slices Filling d.verdict st.pieces
+        moved shared d read st mid left d.moves finds d.last d.slicer d.slices Filling d.verdict st.pieces
         went (tells-none Filling filling-plain) read
-        (slices_then shop.pool.now d.workers left d.moves (roots_at Filling d.slices.items) d.seat mid went
+        (slices_then shared.pool.now d.workers left d.moves (roots_at Filling d.slices.items) d.seat mid went
         d.slices.items st.pieces st.slices)
         (omega arith)
         (reading.0, record { frames = b.frames; healthy = b.healthy }, reading.2, reading.3))
@@ -120,17 +121,17 @@ module _ (shop : Shop) (d : Cutter) (read : List ℕ) (st : CutterStands shop d 
     -- ---- The block is in a new root.
 
     module _ (root : RootId) (new : PoolSeat) (number : ℕ) (block : List ℕ)
-        (allocates : Proceeds shop.pool.now empty_hand 6 0 (once_more root) d.seat mid)
-        (bears : HasBorn shop.pool.now root d.seat mid)
-        (sets : Proceeds shop.pool.now empty_hand 1 0 no_change mid new)
-        (noted : IsNoted shop.pool.now mid new (Object.Root root.place) number (access root (Did.Set 0 block)))
+        (allocates : Proceeds shared.pool.now empty_hand 6 0 (once_more root) d.seat mid)
+        (bears : HasBorn shared.pool.now root d.seat mid)
+        (sets : Proceeds shared.pool.now empty_hand 1 0 no_change mid new)
+        (noted : IsNoted shared.pool.now mid new (Object.Root root.place) number (access root (Did.Set 0 block)))
         (slicer : Slicer) where
       abbrev roots : List RootId
       roots = roots_at (Cutting root 0) d.slices.items
 
-      works-mid : Works shop.pool.now empty_hand (d.turns - 6) d.moves mid
+      works-mid : Works shared.pool.now empty_hand (d.turns - 6) d.moves mid
       works-mid =
-          works_then shop.pool.now d.workers d.turns d.moves 6 0 (d.turns - 6) d.moves (once_more root) d.seat mid
+          works_then shared.pool.now d.workers d.turns d.moves 6 0 (d.turns - 6) d.moves (once_more root) d.seat mid
           st.stands.works st.stands.lane allocates (omega (arith, enough)) (omega arith)
 
       lane-mid : (view_of mid).own.number ≡ Some d.workers
@@ -143,10 +144,10 @@ module _ (shop : Shop) (d : Cutter) (read : List ℕ) (st : CutterStands shop d 
       notes-new =
           ap (λ m. m.0.own.notes) noted.seat ∙ ap (λ (es : List Entry). es ++ note ∷ []) bears.later.grown.notes
 
-      went : HasGone shop.pool.now d.workers left d.moves roots d.seat new
+      went : HasGone shared.pool.now d.workers left d.moves roots d.seat new
       went = record {
         works =
-            works_then shop.pool.now d.workers (d.turns - 6) d.moves 1 0 left d.moves no_change mid new
+            works_then shared.pool.now d.workers (d.turns - 6) d.moves 1 0 left d.moves no_change mid new
             works-mid lane-mid sets (omega (arith, enough)) (omega arith);
         lane = sets.goes.number ∙ lane-mid;
         added = bears.later.added ++ note ∷ [];
@@ -157,10 +158,10 @@ module _ (shop : Shop) (d : Cutter) (read : List ℕ) (st : CutterStands shop d 
             (noted_by (view_of mid).own.number (access root (Did.Set 0 block))) refl);
         sent = λ to.
             (let a =
-            sent_less shop.pool.now d.workers d.turns d.moves 6 0 (d.turns - 6) d.moves (once_more root) d.seat mid
+            sent_less shared.pool.now d.workers d.turns d.moves 6 0 (d.turns - 6) d.moves (once_more root) d.seat mid
             st.stands.works st.stands.lane allocates (omega (arith, enough)) (omega arith) to in
             let b =
-            sent_less shop.pool.now d.workers (d.turns - 6) d.moves 1 0 left d.moves no_change mid new
+            sent_less shared.pool.now d.workers (d.turns - 6) d.moves 1 0 left d.moves no_change mid new
             works-mid lane-mid sets (omega (arith, enough)) (omega arith) to in
             omega (arith, a, b));
         fresh =
@@ -168,9 +169,9 @@ module _ (shop : Shop) (d : Cutter) (read : List ℕ) (st : CutterStands shop d 
             (fresh_written (view_of d.seat).own.notes bears.later.added root (view_of mid).own.number number bears.at
             block st.fresh (quiet_none bears.later.added bears.later.quiet) bears.born);
         counts =
-            counts_then shop.pool.now d.workers (d.turns - 6) d.moves 1 0 left d.moves no_change mid new
+            counts_then shared.pool.now d.workers (d.turns - 6) d.moves 1 0 left d.moves no_change mid new
             works-mid lane-mid sets (omega (arith, enough)) (omega arith) roots roots (λ r. refl)
-            (counts_then shop.pool.now d.workers d.turns d.moves 6 0 (d.turns - 6) d.moves (once_more root) d.seat mid
+            (counts_then shared.pool.now d.workers d.turns d.moves 6 0 (d.turns - 6) d.moves (once_more root) d.seat mid
             st.stands.works st.stands.lane allocates (omega (arith, enough)) (omega arith)
             (roots_at Filling d.slices.items) roots
             (λ r. let a = times-cons r root (roots_at Filling d.slices.items) in let b = times-cons r root [] in
@@ -225,11 +226,11 @@ module _ (shop : Shop) (d : Cutter) (read : List ℕ) (st : CutterStands shop d 
             subst (λ (gone : List ℕ). IsBetween placed_cutter gone st.handed st.pieces) (sym (append-nil read))
             (let b = reading.1 in record { frames = b.frames; healthy = b.healthy })
 
-        pub placed : CutterStands shop placed_cutter (read ++ bytes)
+        pub placed : CutterStands shared placed_cutter (read ++ bytes)
         placed =
-            moved shop d read st new left d.moves finds last slicer d.slices (Cutting root 0) d.verdict
+            moved shared d read st new left d.moves finds last slicer d.slices (Cutting root 0) d.verdict
             st.pieces went (cuts-told root) (read ++ bytes)
-            (slices_then shop.pool.now d.workers left d.moves roots d.seat new went d.slices.items st.pieces
+            (slices_then shared.pool.now d.workers left d.moves roots d.seat new went d.slices.items st.pieces
             st.slices)
             (omega arith)
             (read, bytes, (in-root, (at-front, between)))
@@ -237,15 +238,16 @@ module _ (shop : Shop) (d : Cutter) (read : List ℕ) (st : CutterStands shop d 
       -- ---- The root is let go at once, and the stream is read no further.
 
       module _ (end : PoolSeat) (once : Bool)
-          (let_go : Proceeds shop.pool.now empty_hand RELEASE_TURNS 0 (once_less root once) new end)
-          (later : IsLater shop.pool.now new end) (verdict : Verdict) where
+          (let_go : Proceeds shared.pool.now empty_hand RELEASE_TURNS 0 (once_less root once) new end)
+          (later : IsLater shared.pool.now new end) (verdict : Verdict) where
         abbrev others : List RootId
         others = map (λ v. v.root) d.slices.items
 
-        gone : HasGone shop.pool.now d.workers (left - RELEASE_TURNS) d.moves others d.seat end
+        gone : HasGone shared.pool.now d.workers (left - RELEASE_TURNS) d.moves others d.seat end
         gone =
-            gone_on shop.pool.now d.workers left d.moves (left - RELEASE_TURNS) d.moves roots others d.seat new end went
-            (gone_quiet shop.pool.now d.workers left d.moves RELEASE_TURNS 0 (left - RELEASE_TURNS) d.moves
+            gone_on shared.pool.now d.workers left d.moves (left - RELEASE_TURNS) d.moves roots others d.seat new end
+            went
+            (gone_quiet shared.pool.now d.workers left d.moves RELEASE_TURNS 0 (left - RELEASE_TURNS) d.moves
             (once_less root once) new end went.works went.lane let_go (omega (arith, enough)) (omega arith) roots others
             (less_first root others once) went.counts went.fresh later)
 
@@ -254,11 +256,11 @@ module _ (shop : Shop) (d : Cutter) (read : List ℕ) (st : CutterStands shop d 
             moved_to d end (left - RELEASE_TURNS) d.moves finds d.last slicer d.slices LettingGo verdict
 
         pub stopped : (more : List ℕ) → HasVerdict verdict stopped_cutter more st.handed
-            → CutterStands shop stopped_cutter more
+            → CutterStands shared stopped_cutter more
         stopped more has =
-            moved shop d read st end (left - RELEASE_TURNS) d.moves finds d.last slicer d.slices LettingGo verdict
+            moved shared d read st end (left - RELEASE_TURNS) d.moves finds d.last slicer d.slices LettingGo verdict
             st.pieces gone (tells-none LettingGo letting_go-plain) more
-            (slices_then shop.pool.now d.workers (left - RELEASE_TURNS) d.moves others d.seat end gone d.slices.items
+            (slices_then shared.pool.now d.workers (left - RELEASE_TURNS) d.moves others d.seat end gone d.slices.items
             st.pieces st.slices)
             (omega arith) has
 

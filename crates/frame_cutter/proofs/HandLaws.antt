@@ -13,7 +13,7 @@ use Rattle.pool_law.specs.declared.id.RootId.{RootId}
 use Rattle.pool_law.specs.declared.id.ViewData.{ViewData}
 use Rattle.shared_pool.specs.SeatViews.{view_of}
 use Rattle.frame_core.specs.declared.limits.TheConstants.{MAX_FRAMES}
-use Rattle.frame_hash.specs.declared.shop.Shop.{Shop}
+use Rattle.frame_hash.specs.declared.shared.Shared.{Shared}
 use Rattle.frame_hash.specs.Told.{jobs_of, joined, pieces_of, share_of}
 use Rattle.frame_cutter.specs.declared.cutter.Cutter.{Cutter}
 use Rattle.frame_cutter.specs.declared.stage.Stage.{Stage}
@@ -29,10 +29,10 @@ use Rattle.frame_cutter.proofs.PushLaws.{HasEnd, ends_put}
 use Rattle.frame_cutter.proofs.SentLaws.{posts_sent}
 use Rattle.frame_cutter.proofs.ShareLaws.{handed_as, if_so, jobs_on, jobs_one, pieces_on, pieces_one, share_push}
 
-module _ (shop : Shop) (d : Cutter) (read : List ℕ) (st : CutterStands shop d read) (root : RootId)
+module _ (shared : Shared) (d : Cutter) (read : List ℕ) (st : CutterStands shared d read) (root : RootId)
     (used gone : ℕ) (handing : d.stage ≡ Handing root used gone) where
   at : IsUnderway (Handing root used gone) d read st.handed st.pieces
-  at = handing_at shop d read st root used gone handing
+  at = handing_at shared d read st root used gone handing
 
   -- the number of the frame has one behind it
   pub few_handed : d.frames < MAX_FRAMES
@@ -85,7 +85,7 @@ module _ (shop : Shop) (d : Cutter) (read : List ℕ) (st : CutterStands shop d 
 
     module _ (below : to < d.workers) (ends : Vec (Pass Job JobLog)) (was end : Pass Job JobLog)
         (was_is : was ≡ get_or d.ends.items to was) (items : ends.items ≡ set d.ends.items to end)
-        (sends : HoldsAt (λ q. IsSender q end) shop.queues.now to) where
+        (sends : HoldsAt (λ q. IsSender q end) shared.queues.now to) where
       was_its : (view was).sent ≡ jobs_of (share_of d.workers to 0 st.handed) ++ []
       was_its =
           let s = st.served to below in
@@ -102,11 +102,11 @@ module _ (shop : Shop) (d : Cutter) (read : List ℕ) (st : CutterStands shop d 
       -- the ends behind it
       ends_then : (jobs : ℕ → List Job) → (view end).sent ≡ jobs to
           → ((w : ℕ) → w ≢ to → jobs_of (share_of d.workers w 0 st.handed) ++ [] ≡ jobs w) → (w : ℕ)
-          → w < d.workers → HasEnd shop ends.items w (jobs w)
+          → w < d.workers → HasEnd shared ends.items w (jobs w)
       ends_then jobs sent others w under =
           let s = st.served w under in
-          subst (λ (xs : List (Pass Job JobLog)). HasEnd shop xs w (jobs w)) (sym items)
-          (ends_put shop d.ends.items to end (λ k. jobs_of (share_of d.workers k 0 st.handed) ++ []) jobs low sends
+          subst (λ (xs : List (Pass Job JobLog)). HasEnd shared xs w (jobs w)) (sym items)
+          (ends_put shared d.ends.items to end (λ k. jobs_of (share_of d.workers k 0 st.handed) ++ []) jobs low sends
           sent others w
           (record {
             end = s.end;
@@ -116,7 +116,7 @@ module _ (shop : Shop) (d : Cutter) (read : List ℕ) (st : CutterStands shop d 
           }))
 
       -- the queue was full
-      pub hands_none : (view end).sent ≡ (view was).sent → CutterStands shop (record d { ends = ends }) read
+      pub hands_none : (view end).sent ≡ (view was).sent → CutterStands shared (record d { ends = ends }) read
       hands_none sent =
           let b = st.block in
           let inside = at.2.0 in
@@ -222,7 +222,7 @@ module _ (shop : Shop) (d : Cutter) (read : List ℕ) (st : CutterStands shop d 
           sym (jobs_then w ∙ none) ∙ sym (append-nil (jobs_of (share_of d.workers w 0 hs)))
 
       pub hands_job : (slices : Vec ViewData) → slices.items ≡ [] → (view end).sent ≡ (view was).sent ++ job ∷ []
-          → CutterStands shop
+          → CutterStands shared
           (record d { ends = ends; frames = d.frames + 1; slices = slices; stage = Cutting root used }) read
       hands_job slices none sent =
           let b = st.block in

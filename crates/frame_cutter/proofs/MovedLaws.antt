@@ -6,7 +6,7 @@ use Rattle.shared_pool.specs.declared.seat.PoolSeat.{PoolSeat}
 use Rattle.shared_pool.specs.SeatViews.{view_of}
 use Rattle.job_queue.specs.declared.jobs.Job.{Job}
 use Rattle.pool_law.specs.declared.id.ViewData.{ViewData}
-use Rattle.frame_hash.specs.declared.shop.Shop.{Shop}
+use Rattle.frame_hash.specs.declared.shared.Shared.{Shared}
 use Rattle.frame_hash.specs.Told.{jobs_of, pieces_of, share_of}
 use Rattle.frame_slices.specs.declared.slicer.Found.{Found}
 use Rattle.frame_slices.specs.declared.slicer.Slicer.{Slicer}
@@ -40,12 +40,12 @@ pub record KeepsTold (workers : ℕ) (old new : Stage) : Type 0 where
   pub behind : gone_of new ≡ 0
   pub ends : (worker : ℕ) → worker < workers → ends_at old worker ≡ ends_at new worker
 
-module _ (shop : Shop) (d : Cutter) (read : List ℕ) (st : CutterStands shop d read)
+module _ (shared : Shared) (d : Cutter) (read : List ℕ) (st : CutterStands shared d read)
     (seat : PoolSeat) (turns moves : ℕ) (finds : Vec Found) (last : Bool) (slicer : Slicer) (slices : Vec ViewData)
     (stage : Stage) (verdict : Verdict) (pieces : List (List ℕ))
-    (went : HasGone shop.pool.now d.workers turns moves (roots_at stage slices.items) d.seat seat)
+    (went : HasGone shared.pool.now d.workers turns moves (roots_at stage slices.items) d.seat seat)
     (keeps : KeepsTold d.workers d.stage stage) where
-  stands_then : StandsAt shop (moved_to d seat turns moves finds last slicer slices stage verdict)
+  stands_then : StandsAt shared (moved_to d seat turns moves finds last slicer slices stage verdict)
   stands_then =
       let s = st.stands in
       record {
@@ -58,7 +58,7 @@ module _ (shop : Shop) (d : Cutter) (read : List ℕ) (st : CutterStands shop d 
         rooms = s.rooms;
       }
 
-  block_then : HasBlock shop (moved_to d seat turns moves finds last slicer slices stage verdict)
+  block_then : HasBlock shared (moved_to d seat turns moves finds last slicer slices stage verdict)
   block_then = let b = st.block in record { some = b.some; few = b.few; class = b.class }
 
   same_jobs : (worker : ℕ) → worker < d.workers
@@ -81,7 +81,7 @@ module _ (shop : Shop) (d : Cutter) (read : List ℕ) (st : CutterStands shop d 
       ∙ sym (ap (λ n. so_far worker n pieces) keeps.behind)
 
   served_then : length slices.items + moves ≤ length d.slices.items + d.moves → (worker : ℕ) → worker < d.workers
-      → HasServed shop (moved_to d seat turns moves finds last slicer slices stage verdict) st.handed pieces worker
+      → HasServed shared (moved_to d seat turns moves finds last slicer slices stage verdict) st.handed pieces worker
   served_then few worker below =
       let s = st.served worker below in
       record {
@@ -91,7 +91,7 @@ module _ (shop : Shop) (d : Cutter) (read : List ℕ) (st : CutterStands shop d 
         jobs = s.jobs ∙ same_jobs worker below;
         sent =
             subst (λ (ps : List (List ℕ)). HasSent (view_of seat).own.notes d.workers worker ps) (same_pieces worker)
-            (sent_then shop.pool.now d.workers turns moves (roots_at stage slices.items) d.seat seat went worker _
+            (sent_then shared.pool.now d.workers turns moves (roots_at stage slices.items) d.seat seat went worker _
             s.sent);
         few =
             (let a = s.few in let b = went.sent worker in let c = keeps.before in let e = keeps.behind in
@@ -102,7 +102,7 @@ module _ (shop : Shop) (d : Cutter) (read : List ℕ) (st : CutterStands shop d 
   pub moved : (more : List ℕ) → AreSlices (view_of seat).own.notes (Some d.workers) slices.items pieces
       → length slices.items + moves ≤ length d.slices.items + d.moves
       → IsUnderway stage (moved_to d seat turns moves finds last slicer slices stage verdict) more st.handed pieces
-      → CutterStands shop (moved_to d seat turns moves finds last slicer slices stage verdict) more
+      → CutterStands shared (moved_to d seat turns moves finds last slicer slices stage verdict) more
   moved more are few underway = record {
     stands = stands_then;
     block = block_then;
@@ -114,7 +114,7 @@ module _ (shop : Shop) (d : Cutter) (read : List ℕ) (st : CutterStands shop d 
     slices = are;
     served = served_then few;
     others = λ to above.
-        sent_then shop.pool.now d.workers turns moves (roots_at stage slices.items) d.seat seat went to []
+        sent_then shared.pool.now d.workers turns moves (roots_at stage slices.items) d.seat seat went to []
         (st.others to above);
     underway = underway;
   }

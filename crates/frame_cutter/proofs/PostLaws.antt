@@ -31,7 +31,7 @@ use Rattle.shared_pool.specs.MailAnswers.{HasRoom, IsPosted, RoomFor}
 use Rattle.shared_pool.specs.Notes.{plain}
 use Rattle.shared_pool.specs.SeatLanes.{lane_of}
 use Rattle.shared_pool.specs.SeatViews.{view_of}
-use Rattle.frame_hash.specs.declared.shop.Shop.{Shop}
+use Rattle.frame_hash.specs.declared.shared.Shared.{Shared}
 use Rattle.frame_hash.specs.Told.{pieces_of, share_of}
 use Rattle.frame_cutter.specs.declared.cutter.Cutter.{Cutter}
 use Rattle.frame_cutter.specs.declared.stage.Stage.{Stage}
@@ -77,7 +77,7 @@ slice_at_place slices place len view len_is low view_is =
 
 -- ---- Where it stands.
 
-module _ (shop : Shop) (d : Cutter) (read : List ℕ) (st : CutterStands shop d read) (root : RootId)
+module _ (shared : Shared) (d : Cutter) (read : List ℕ) (st : CutterStands shared d read) (root : RootId)
     (used gone : ℕ) (handing : d.stage ≡ Handing root used gone) where
   pub handing_at : IsUnderway (Handing root used gone) d read st.handed st.pieces
   handing_at = subst (λ (s : Stage). IsUnderway s d read st.handed st.pieces) handing st.underway
@@ -121,14 +121,14 @@ module _ (shop : Shop) (d : Cutter) (read : List ℕ) (st : CutterStands shop d 
     lane-is = ap (λ (n : Option ℕ). unwrap_or n 0) st.stands.lane
 
     pub room : to < d.workers → 0 < slice_index d.rooms.items to
-        → HasRoom shop.pool.now (lane_of d.seat) to (view_of d.seat)
+        → HasRoom shared.pool.now (lane_of d.seat) to (view_of d.seat)
     room below some =
-        subst (λ (lane : ℕ). HasRoom shop.pool.now lane to (view_of d.seat)) (sym lane-is)
+        subst (λ (lane : ℕ). HasRoom shared.pool.now lane to (view_of d.seat)) (sym lane-is)
         (λ m. let a = (st.served to below).room m in omega (arith, a, some))
 
     -- ---- It is posted.
 
-    module _ (seat : PoolSeat) (number : ℕ) (goes : Goes shop.pool.now empty_hand 0 0 d.seat seat)
+    module _ (seat : PoolSeat) (number : ℕ) (goes : Goes shared.pool.now empty_hand 0 0 d.seat seat)
         (changes : Changes (posted (record { view = Some view })) (view_of d.seat) (view_of seat))
         (sends : Sends 1 (view_of d.seat) (view_of seat)) (some : to < d.workers)
         (noted : IsPosted d.seat seat to number (record { view = Some view })) (rooms : Vec ℕ)
@@ -210,11 +210,11 @@ module _ (shop : Shop) (d : Cutter) (read : List ℕ) (st : CutterStands shop d 
           omega (arith, a, b, c, e, f)
 
       room_then : (worker : ℕ) → worker < d.workers
-          → RoomFor shop.pool.now d.workers worker
+          → RoomFor shared.pool.now d.workers worker
           (sent_on d.workers worker (view_of seat).own.notes + slice_index rooms.items worker)
       room_then worker below =
           dite (ℕ_discrete worker to)
-          (λ is. subst (λ (w : ℕ). RoomFor shop.pool.now d.workers w
+          (λ is. subst (λ (w : ℕ). RoomFor shared.pool.now d.workers w
           (sent_on d.workers w (view_of seat).own.notes + slice_index rooms.items w)) (sym is)
           (λ m.
           let a = (st.served to some).room m in let b = sends.sent to in let c = fewer in
@@ -229,7 +229,7 @@ module _ (shop : Shop) (d : Cutter) (read : List ℕ) (st : CutterStands shop d 
       abbrev sent_cutter : Cutter
       sent_cutter = record d { seat = seat; stage = Handing root used (gone + 1); rooms = rooms }
 
-      served_then : (worker : ℕ) → worker < d.workers → HasServed shop sent_cutter st.handed st.pieces worker
+      served_then : (worker : ℕ) → worker < d.workers → HasServed shared sent_cutter st.handed st.pieces worker
       served_then worker below =
           let s = st.served worker below in
           record {
@@ -255,7 +255,7 @@ module _ (shop : Shop) (d : Cutter) (read : List ℕ) (st : CutterStands shop d 
             room = room_then worker below;
           }
 
-      pub posts : CutterStands shop sent_cutter read
+      pub posts : CutterStands shared sent_cutter read
       posts =
           let s = st.stands in
           let b = st.block in
@@ -267,7 +267,7 @@ module _ (shop : Shop) (d : Cutter) (read : List ℕ) (st : CutterStands shop d 
           record {
             stands = record {
               works =
-                  works_after shop.pool.now empty_hand empty_hand d.turns d.moves 0 0 d.turns d.moves d.seat seat
+                  works_after shared.pool.now empty_hand empty_hand d.turns d.moves 0 0 d.turns d.moves d.seat seat
                   s.works goes (omega arith) (omega arith);
               lane = goes.number ∙ s.lane;
               lanes = s.lanes;

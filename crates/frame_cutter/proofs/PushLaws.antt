@@ -9,13 +9,13 @@ use Rattle.crossbeam_queue.specs.Passes.{Pass, view}
 use Rattle.job_queue.specs.declared.jobs.Job.{Job}
 use Rattle.job_queue.specs.declared.jobs.JobLog.{JobLog}
 use Rattle.job_queue.specs.Jobs.{IsSender}
-use Rattle.frame_hash.specs.declared.shop.Shop.{Shop}
+use Rattle.frame_hash.specs.declared.shared.Shared.{Shared}
 
 -- a worker's end is that of its queue, and these jobs were sent
-pub record HasEnd (shop : Shop) (ends : List (Pass Job JobLog)) (worker : ℕ) (jobs : List Job) : Type 0 where
+pub record HasEnd (shared : Shared) (ends : List (Pass Job JobLog)) (worker : ℕ) (jobs : List Job) : Type 0 where
   pub end : Pass Job JobLog
   pub end_is : slice_get ends worker ≡ Some end
-  pub sends : HoldsAt (λ q. IsSender q end) shop.queues.now worker
+  pub sends : HoldsAt (λ q. IsSender q end) shared.queues.now worker
   pub jobs_are : (view end).sent ≡ jobs
 
 module _ (xs : List (Pass Job JobLog)) (i : ℕ) (x : Pass Job JobLog) where
@@ -32,14 +32,14 @@ module _ (xs : List (Pass Job JobLog)) (i : ℕ) (x : Pass Job JobLog) where
       ∙ sym (slice_get-get_or xs j y low) ∙ e
 
 -- one end was put in the place of another, and its jobs alone are others
-pub ends_put : (shop : Shop) (ends : List (Pass Job JobLog)) (worker : ℕ) (end : Pass Job JobLog)
+pub ends_put : (shared : Shared) (ends : List (Pass Job JobLog)) (worker : ℕ) (end : Pass Job JobLog)
     (before jobs : ℕ → List Job)
-    → worker < length ends → HoldsAt (λ q. IsSender q end) shop.queues.now worker → (view end).sent ≡ jobs worker
-    → ((w : ℕ) → w ≢ worker → before w ≡ jobs w) → (w : ℕ) → HasEnd shop ends w (before w)
-    → HasEnd shop (set ends worker end) w (jobs w)
-ends_put shop ends worker end before jobs low sends sent others w has =
+    → worker < length ends → HoldsAt (λ q. IsSender q end) shared.queues.now worker → (view end).sent ≡ jobs worker
+    → ((w : ℕ) → w ≢ worker → before w ≡ jobs w) → (w : ℕ) → HasEnd shared ends w (before w)
+    → HasEnd shared (set ends worker end) w (jobs w)
+ends_put shared ends worker end before jobs low sends sent others w has =
     dite (ℕ_discrete w worker)
-    (λ is. subst (λ (k : ℕ). HasEnd shop (set ends worker end) k (jobs k)) (sym is) (record {
+    (λ is. subst (λ (k : ℕ). HasEnd shared (set ends worker end) k (jobs k)) (sym is) (record {
       end = end;
       end_is = put_there ends worker end low;
       sends = sends;

@@ -15,7 +15,7 @@ use Rattle.seat_work.specs.Hands.{empty_hand}
 use Rattle.seat_work.specs.Works.{IsLater, Proceeds}
 use Rattle.shared_pool.specs.declared.seat.PoolSeat.{PoolSeat}
 use Rattle.shared_pool.specs.SeatViews.{view_of}
-use Rattle.frame_hash.specs.declared.shop.Shop.{Shop}
+use Rattle.frame_hash.specs.declared.shared.Shared.{Shared}
 use Rattle.frame_hash.specs.Told.{joined}
 use Rattle.frame_hash.proofs.ToldLaws.{joined-more}
 use Rattle.frame_slices.specs.declared.slicer.Found.{Found}
@@ -88,10 +88,10 @@ part-at block rest start end le within =
     sym (ap (take (end - start)) (drop-append-le start block rest (omega (arith, le, within)))
     ∙ take-append-le (end - start) (drop start block) rest (omega (arith, long, le, within)))
 
-module _ (shop : Shop) (d : Cutter) (root : RootId) (f : Found) (read : List ℕ) (st : CutterStands shop d read)
+module _ (shared : Shared) (d : Cutter) (root : RootId) (f : Found) (read : List ℕ) (st : CutterStands shared d read)
     (used : ℕ) (cutting : d.stage ≡ Cutting root used) (found : slice_get d.finds.items used ≡ Some f) where
   at : IsUnderway (Cutting root used) d read st.handed st.pieces
-  at = cutting_at shop d read st root used cutting
+  at = cutting_at shared d read st root used cutting
 
   abbrev before : List ℕ
   before = at.0
@@ -156,7 +156,7 @@ module _ (shop : Shop) (d : Cutter) (root : RootId) (f : Found) (read : List ℕ
   -- its seat and its slices by then, and the pieces that these are
   module _ (seat : PoolSeat) (moves : ℕ) (slices : Vec ViewData) (pieces : List (List ℕ))
       (joins : joined pieces ≡ joined st.pieces ++ part)
-      (went : HasGone shop.pool.now d.workers d.turns moves (root ∷ map (λ v. v.root) slices.items) d.seat seat) where
+      (went : HasGone shared.pool.now d.workers d.turns moves (root ∷ map (λ v. v.root) slices.items) d.seat seat) where
     abbrev roots : List RootId
     roots = root ∷ map (λ v. v.root) slices.items
 
@@ -175,7 +175,7 @@ module _ (shop : Shop) (d : Cutter) (root : RootId) (f : Found) (read : List ℕ
           capacity = r.capacity;
           rest = r.rest;
           written =
-              writes_then shop.pool.now d.workers d.turns moves roots d.seat seat went root (block ++ r.rest)
+              writes_then shared.pool.now d.workers d.turns moves roots d.seat seat went root (block ++ r.rest)
               r.written;
         }
 
@@ -216,47 +216,47 @@ module _ (shop : Shop) (d : Cutter) (root : RootId) (f : Found) (read : List ℕ
         )
 
     takes_so : AreSlices (view_of seat).own.notes (Some d.workers) slices.items pieces
-        → length slices.items + moves ≤ length d.slices.items + d.moves → CutterStands shop e read
+        → length slices.items + moves ≤ length d.slices.items + d.moves → CutterStands shared e read
     takes_so are few =
         let stage = stage_at root (used + 1) f.ended in
-        moved shop d read st seat d.turns moves d.finds d.last d.slicer slices stage d.verdict pieces
-        (subst (λ (rs : List RootId). HasGone shop.pool.now d.workers d.turns moves rs d.seat seat)
+        moved shared d read st seat d.turns moves d.finds d.last d.slicer slices stage d.verdict pieces
+        (subst (λ (rs : List RootId). HasGone shared.pool.now d.workers d.turns moves rs d.seat seat)
         (sym (roots_next root (used + 1) f.ended slices.items)) went)
-        (keeps_told shop d read st root used cutting stage (gone_next root (used + 1) f.ended)
+        (keeps_told shared d read st root used cutting stage (gone_next root (used + 1) f.ended)
         (ends_next root (used + 1) f.ended))
         read are few (next f.ended taken onward)
 
   -- no byte is the frame's
-  pub takes_none : f.start ≡ f.used → CutterStands shop (record d { stage = stage_at root (used + 1) f.ended }) read
+  pub takes_none : f.start ≡ f.used → CutterStands shared (record d { stage = stage_at root (used + 1) f.ended }) read
   takes_none none =
       let empty : part ≡ [] = ap (λ n. take n (drop f.start block))
       (let e : f.used - f.start ≡ 0 = omega (arith, none) in e) in
       takes_so d.seat d.moves d.slices st.pieces
       (sym (append-nil (joined st.pieces)) ∙ ap (λ r. joined st.pieces ++ r) (sym empty))
-      (gone_none shop.pool.now d.workers d.turns d.moves (root ∷ map (λ v. v.root) d.slices.items) d.seat
-      st.stands.works st.stands.lane st.fresh (counts_here shop d read st root used cutting))
+      (gone_none shared.pool.now d.workers d.turns d.moves (root ∷ map (λ v. v.root) d.slices.items) d.seat
+      st.stands.works st.stands.lane st.fresh (counts_here shared d read st root used cutting))
       st.slices (omega arith)
 
   -- some bytes are, and they are a slice
   module _ (seat : PoolSeat) (slices : Vec ViewData) (some : f.start < f.used) (left : 0 < d.moves)
       (items : slices.items ≡ d.slices.items ++ slice_at root f.start f.used ∷ [])
-      (retained : Proceeds shop.pool.now empty_hand 0 1 (once_more root) d.seat seat)
-      (later : IsLater shop.pool.now d.seat seat) where
+      (retained : Proceeds shared.pool.now empty_hand 0 1 (once_more root) d.seat seat)
+      (later : IsLater shared.pool.now d.seat seat) where
     roots-are : root ∷ map (λ v. v.root) slices.items ≡ (root ∷ map (λ v. v.root) d.slices.items) ++ root ∷ []
     roots-are =
         ap (λ (xs : List ViewData). root ∷ map (λ v. v.root) xs) items
         ∙ ap (λ (rs : List RootId). root ∷ rs)
         (map-append (λ (v : ViewData). v.root) d.slices.items (slice_at root f.start f.used ∷ []))
 
-    one-more : HasGone shop.pool.now d.workers d.turns (d.moves - 1) (root ∷ map (λ v. v.root) slices.items) d.seat
+    one-more : HasGone shared.pool.now d.workers d.turns (d.moves - 1) (root ∷ map (λ v. v.root) slices.items) d.seat
         seat
     one-more =
-        gone_quiet shop.pool.now d.workers d.turns d.moves 0 1 d.turns (d.moves - 1) (once_more root) d.seat seat
+        gone_quiet shared.pool.now d.workers d.turns d.moves 0 1 d.turns (d.moves - 1) (once_more root) d.seat seat
         st.stands.works st.stands.lane retained (omega arith) (omega (arith, left))
         (root ∷ map (λ v. v.root) d.slices.items) (root ∷ map (λ v. v.root) slices.items)
         (subst (λ (rs : List RootId). ChangesTo (once_more root) (root ∷ map (λ v. v.root) d.slices.items) rs)
         (sym roots-are) (more_last root (root ∷ map (λ v. v.root) d.slices.items)))
-        (counts_here shop d read st root used cutting) st.fresh later
+        (counts_here shared d read st root used cutting) st.fresh later
 
     slice-is : IsSlice (view_of seat).own.notes (Some d.workers) (slice_at root f.start f.used) part
     slice-is =
@@ -266,7 +266,7 @@ module _ (shop : Shop) (d : Cutter) (root : RootId) (f : Found) (read : List ℕ
         record {
           bytes = block ++ r.rest;
           written =
-              writes_then shop.pool.now d.workers d.turns (d.moves - 1) (root ∷ map (λ v. v.root) slices.items) d.seat
+              writes_then shared.pool.now d.workers d.turns (d.moves - 1) (root ∷ map (λ v. v.root) slices.items) d.seat
               seat one-more root (block ++ r.rest) r.written;
           view_is = record { inside = omega (arith, some, a, b, c); reader = omega arith; writer = omega arith };
           some = omega (arith, some);
@@ -275,7 +275,7 @@ module _ (shop : Shop) (d : Cutter) (root : RootId) (f : Found) (read : List ℕ
           piece_is = part-at block r.rest f.start f.used (omega (arith, some)) a;
         }
 
-    pub takes_one : CutterStands shop (record d {
+    pub takes_one : CutterStands shared (record d {
       seat = seat;
       moves = d.moves - 1;
       slices = slices;
@@ -288,7 +288,7 @@ module _ (shop : Shop) (d : Cutter) (root : RootId) (f : Found) (read : List ℕ
         (sym items)
         (slices_more (view_of seat).own.notes (Some d.workers) (slice_at root f.start f.used) part d.slices.items
         st.pieces
-        (slices_then shop.pool.now d.workers d.turns (d.moves - 1) (root ∷ map (λ v. v.root) slices.items) d.seat seat
+        (slices_then shared.pool.now d.workers d.turns (d.moves - 1) (root ∷ map (λ v. v.root) slices.items) d.seat seat
         one-more d.slices.items st.pieces st.slices)
         slice-is))
         (let many = ap (λ xs. length xs) items in

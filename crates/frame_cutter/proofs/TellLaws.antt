@@ -9,7 +9,7 @@ use Rattle.job_queue.specs.declared.jobs.Job.{Job}
 use Rattle.job_queue.specs.declared.jobs.Job.TheVariants.{End}
 use Rattle.job_queue.specs.declared.jobs.JobLog.{JobLog}
 use Rattle.job_queue.specs.Jobs.{IsSender}
-use Rattle.frame_hash.specs.declared.shop.Shop.{Shop}
+use Rattle.frame_hash.specs.declared.shared.Shared.{Shared}
 use Rattle.frame_hash.specs.Told.{jobs_of, share_of}
 use Rattle.frame_cutter.specs.declared.cutter.Cutter.{Cutter}
 use Rattle.frame_cutter.specs.declared.stage.Stage.{Stage}
@@ -42,14 +42,16 @@ now_told : (next : ℕ) → told_if (nat_lt next (next + 1)) ≡ End ∷ []
 now_told next = ap told_if (lt-ltb next (next + 1) (omega arith))
 
 -- a cutter whose stage is known
-pub at_ending : (shop : Shop) (d : Cutter) (read : List ℕ) (next : ℕ) → d.stage ≡ Ending next → CutterStands shop d read
-    → CutterStands shop (record d { stage = Ending next }) read
-at_ending shop d read next ending st = subst (λ (s : Stage). CutterStands shop (record d { stage = s }) read) ending st
+pub at_ending : (shared : Shared) (d : Cutter) (read : List ℕ) (next : ℕ) → d.stage ≡ Ending next
+    → CutterStands shared d read
+    → CutterStands shared (record d { stage = Ending next }) read
+at_ending shared d read next ending st = subst (λ (s : Stage). CutterStands shared (record d { stage = s }) read)
+    ending st
 
-module _ (shop : Shop) (d : Cutter) (read : List ℕ) (next : ℕ)
-    (st : CutterStands shop (record d { stage = Ending next }) read) (below : next < d.workers)
+module _ (shared : Shared) (d : Cutter) (read : List ℕ) (next : ℕ)
+    (st : CutterStands shared (record d { stage = Ending next }) read) (below : next < d.workers)
     (ends : Vec (Pass Job JobLog)) (end : Pass Job JobLog) (put : ends.items ≡ set d.ends.items next end)
-    (sends : HoldsAt (λ q. IsSender q end) shop.queues.now next) where
+    (sends : HoldsAt (λ q. IsSender q end) shared.queues.now next) where
   -- the end of the worker as it was
   abbrev old : Pass Job JobLog
   old = (st.served next below).end
@@ -66,16 +68,16 @@ module _ (shop : Shop) (d : Cutter) (read : List ℕ) (next : ℕ)
   -- so many are told now, where the jobs of the others are the same
   module _ (told : ℕ) (in_time : told ≤ d.workers) (sent : (view end).sent ≡ jobs_then told next)
       (others : (worker : ℕ) → worker ≢ next → jobs_then next worker ≡ jobs_then told worker) where
-    end_then : (worker : ℕ) → worker < d.workers → HasEnd shop ends.items worker (jobs_then told worker)
+    end_then : (worker : ℕ) → worker < d.workers → HasEnd shared ends.items worker (jobs_then told worker)
     end_then worker low =
-        subst (λ (es : List (Pass Job JobLog)). HasEnd shop es worker (jobs_then told worker)) (sym put)
-        (ends_put shop d.ends.items next end (jobs_then next) (jobs_then told)
+        subst (λ (es : List (Pass Job JobLog)). HasEnd shared es worker (jobs_then told worker)) (sym put)
+        (ends_put shared d.ends.items next end (jobs_then next) (jobs_then told)
         (let c = st.stands.ends in omega (arith, c, below)) sends sent others worker
         (let s = st.served worker low in
         record { end = s.end; end_is = s.end_is; sends = s.sends; jobs_are = s.jobs }))
 
     served_then : (worker : ℕ) → worker < d.workers
-        → HasServed shop (record d { ends = ends; stage = Ending told }) st.handed st.pieces worker
+        → HasServed shared (record d { ends = ends; stage = Ending told }) st.handed st.pieces worker
     served_then worker low =
         let s = st.served worker low in let e = end_then worker low in
         record {
@@ -88,7 +90,7 @@ module _ (shop : Shop) (d : Cutter) (read : List ℕ) (next : ℕ)
           room = s.room;
         }
 
-    stands_then : StandsAt shop (record d { ends = ends; stage = Ending told })
+    stands_then : StandsAt shared (record d { ends = ends; stage = Ending told })
     stands_then =
         let s = st.stands in
         record {
@@ -101,11 +103,11 @@ module _ (shop : Shop) (d : Cutter) (read : List ℕ) (next : ℕ)
           rooms = s.rooms;
         }
 
-    block_then : HasBlock shop (record d { ends = ends; stage = Ending told })
+    block_then : HasBlock shared (record d { ends = ends; stage = Ending told })
     block_then =
         let b = st.block in record { some = b.some; few = b.few; class = b.class }
 
-    tells_so : CutterStands shop (record d { ends = ends; stage = Ending told }) read
+    tells_so : CutterStands shared (record d { ends = ends; stage = Ending told }) read
     tells_so = record {
       stands = stands_then;
       block = block_then;
@@ -127,13 +129,13 @@ module _ (shop : Shop) (d : Cutter) (read : List ℕ) (next : ℕ)
 
   -- the queue was full
   pub tells_none : (view end).sent ≡ (view old).sent
-      → CutterStands shop (record d { ends = ends; stage = Ending next }) read
+      → CutterStands shared (record d { ends = ends; stage = Ending next }) read
   tells_none sent =
       tells_so next (omega (arith, below)) (sent ∙ (st.served next below).jobs) (λ worker ne. refl)
 
   -- it was told
   pub tells_one : (view end).sent ≡ (view old).sent ++ End ∷ []
-      → CutterStands shop (record d { ends = ends; stage = Ending (next + 1) }) read
+      → CutterStands shared (record d { ends = ends; stage = Ending (next + 1) }) read
   tells_one sent =
       let own = jobs_of (share_of d.workers next 0 st.handed) in
       tells_so (next + 1) (omega (arith, below))

@@ -23,7 +23,7 @@ use Rattle.frame_core.specs.Frames.{failure_of, frames_of}
 use Rattle.frame_slices.specs.declared.slicer.Found.{Found}
 use Rattle.frame_slices.specs.declared.slicer.Slicer.{Slicer}
 use Rattle.frame_slices.specs.Slices.{HasCut}
-use Rattle.frame_hash.specs.declared.shop.Shop.{Shop}
+use Rattle.frame_hash.specs.declared.shared.Shared.{Shared}
 use Rattle.frame_hash.specs.Told.{joined}
 use Rattle.frame_cutter.specs.declared.cutting.Cutting as machines
 use Rattle.frame_cutter.specs.declared.cutter.Cutter.{Cutter}
@@ -115,47 +115,47 @@ abbrev pub CountsJust : List RootId → SeatView → Type 0
 CountsJust roots v = (root : RootId) → gained_of root v ≡ lost_of root v + times root roots
 
 -- the cutter stands at the pool beside its workers, whose lanes are those below its own
-pub record StandsAt (shop : Shop) (d : Cutter) : Type 0 where
-  pub works : Works shop.pool.now empty_hand d.turns d.moves d.seat
+pub record StandsAt (shared : Shared) (d : Cutter) : Type 0 where
+  pub works : Works shared.pool.now empty_hand d.turns d.moves d.seat
   pub lane : (view_of d.seat).own.number ≡ Some d.workers
-  pub lanes : shop.pool.now.table.layout.shape.lanes ≡ d.workers + 1
+  pub lanes : shared.pool.now.table.layout.shape.lanes ≡ d.workers + 1
   pub some : 0 < d.workers
-  pub queues : length shop.queues.now ≡ d.workers
+  pub queues : length shared.queues.now ≡ d.workers
   pub ends : length d.ends.items ≡ d.workers
   pub rooms : length d.rooms.items ≡ d.workers
 
 -- a root may have as many bytes as a block
-pub record HasBlock (shop : Shop) (d : Cutter) : Type 0 where
+pub record HasBlock (shared : Shared) (d : Cutter) : Type 0 where
   pub some : 0 < d.block
   pub few : d.block ≤ 65536
-  pub class : class_of (geometry_of shop.pool.now.table.layout.shape) d.block ≡ Some d.class
+  pub class : class_of (geometry_of shared.pool.now.table.layout.shape) d.block ≡ Some d.class
 
 -- what a worker got: its jobs, and its pieces; its mail has room for as many more as the cutter says
 pub record HasServed
-    (shop : Shop) (d : Cutter) (handed : List (List (List ℕ))) (pieces : List (List ℕ)) (worker : ℕ) :
+    (shared : Shared) (d : Cutter) (handed : List (List (List ℕ))) (pieces : List (List ℕ)) (worker : ℕ) :
     Type 0 where
   pub end : Pass Job JobLog
   pub end_is : slice_get d.ends.items worker ≡ Some end
-  pub sends : HoldsAt (λ q. IsSender q end) shop.queues.now worker
+  pub sends : HoldsAt (λ q. IsSender q end) shared.queues.now worker
   pub jobs : (view end).sent ≡ jobs_at d.workers worker handed d.stage
   pub sent : HasSent (view_of d.seat).own.notes d.workers worker
       (pieces_at d.workers worker handed d.stage pieces)
   pub few : sent_on d.workers worker (view_of d.seat).own.notes
       + (length d.slices.items - gone_of d.stage) + d.moves ≤ MOST_SLICES
-  pub room : RoomFor shop.pool.now d.workers worker
+  pub room : RoomFor shared.pool.now d.workers worker
       (sent_on d.workers worker (view_of d.seat).own.notes + slice_index d.rooms.items worker)
 
 -- the cutter has read just these bytes
-pub record CutterStands (shop : Shop) (d : Cutter) (read : List ℕ) : Type 0 where
-  pub stands : StandsAt shop d
-  pub block : HasBlock shop d
+pub record CutterStands (shared : Shared) (d : Cutter) (read : List ℕ) : Type 0 where
+  pub stands : StandsAt shared d
+  pub block : HasBlock shared d
   pub counts : CountsJust (roots_at d.stage d.slices.items) (view_of d.seat)
   pub handed : List (List (List ℕ))
   pub pieces : List (List ℕ)
   pub frames : d.frames ≡ length handed
   pub fresh : WriteFresh (view_of d.seat).own.notes
   pub slices : AreSlices (view_of d.seat).own.notes (Some d.workers) d.slices.items pieces
-  pub served : (worker : ℕ) → worker < d.workers → HasServed shop d handed pieces worker
+  pub served : (worker : ℕ) → worker < d.workers → HasServed shared d handed pieces worker
   -- nothing went to another lane
   pub others : (to : ℕ) → d.workers ≤ to → HasSent (view_of d.seat).own.notes d.workers to []
   pub underway : IsUnderway d.stage d read handed pieces
@@ -189,9 +189,9 @@ module _ {S : Type 0} (left : S → Option (List ℕ)) (faults : S → ℕ) wher
   -- the cutter has come of the first by steps, beside a source that was the one and now is the other:
   -- unless a read failed, it has read just these bytes of it, and where it took them for the last,
   -- none is left
-  pub record CutterCame (shop : Shop) (old new : S) (first d : Cutter) : Type 0 where
+  pub record CutterCame (shared : Shared) (old new : S) (first d : Cutter) : Type 0 where
     pub read : List ℕ
-    pub stands : CutterStands shop d read
+    pub stands : CutterStands shared d read
     pub workers : d.workers ≡ first.workers
     pub block : d.block ≡ first.block
     pub bytes : is_fault d.verdict ≡ false → Consumes (left old) (left new) read
@@ -199,7 +199,7 @@ module _ {S : Type 0} (left : S → Option (List ℕ)) (faults : S → ℕ) wher
     pub faults_are : HasFaults d.verdict (faults old) (faults new)
 
   -- the cutter has come of the first by steps, with the same source at the same cutter
-  pub record CuttingCame (shop : Shop) (first c : machines.Cutting S) : Type 0 where
+  pub record CuttingCame (shared : Shared) (first c : machines.Cutting S) : Type 0 where
     pub source : c.source.ghost_name ≡ first.source.ghost_name
     pub cutter : c.cutter.ghost_name ≡ first.cutter.ghost_name
-    pub came : CutterCame shop first.source.now c.source.now first.cutter.now c.cutter.now
+    pub came : CutterCame shared first.source.now c.source.now first.cutter.now c.cutter.now

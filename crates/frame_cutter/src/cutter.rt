@@ -1,13 +1,13 @@
 //! What a cutter has beside its source, and its steps.
 
 ghost use Rattle.std.specs.Prelude.{◌≡◌, ℕ, ◌+◌, ◌≤◌, true, false, List, ◌++◌, take, drop, vec_len, Ok};
-ghost use Rattle.frame_hash.specs.declared.shop.Shop.{Shop};
+ghost use Rattle.frame_hash.specs.declared.shared.Shared.{Shared};
 ghost use Rattle.frame_core.specs.Frames.{failure_of};
 ghost use Rattle.frame_slices.specs.Slices.{HasCut};
 ghost use Rattle.frame_cutter.specs.Standing.{CutterStands, SameCutter, is_fault, verdict_of};
 
 use crate::stage::{Stage, Verdict};
-use frame_hash::Shop;
+use frame_hash::Shared;
 use frame_slices::{Found, Slicer};
 use job_queue::JobEnd;
 use pool_law::ViewData;
@@ -50,19 +50,19 @@ pub struct Cutter {
 
 impl Cutter {
     /// The next thing that the cutter does.
-    pub fn go_on<W: Wait>(&mut self, rt: &W, shop: &Shop) -> Result<Stepped, AllocError>
-        requires stands { (read : List ℕ) × CutterStands shop.now self.old read }
-        ensures stands { (read : List ℕ) → CutterStands shop.now self.old read →
-            CutterStands shop.now self.new read }
+    pub fn go_on<W: Wait>(&mut self, rt: &W, shared: &Shared) -> Result<Stepped, AllocError>
+        requires stands { (read : List ℕ) × CutterStands shared.now self.old read }
+        ensures stands { (read : List ℕ) → CutterStands shared.now self.old read →
+            CutterStands shared.now self.new read }
         ensures same { SameCutter self.old self.new }
         ensures finished { result ≡ Ok Stepped.Finished → self.new.stage ≡ Stage.Over }
     {
         match self.stage {
             Stage::Filling => Ok(Stepped::Waiting),
-            Stage::Cutting { root, used } => self.cut(rt, shop, root, used),
-            Stage::Handing { root, used, posted } => Ok(self.hand(rt, shop, root, used, posted)),
-            Stage::LettingGo => Ok(self.let_go(rt, shop)),
-            Stage::Ending { next } => Ok(self.tell(rt, shop, next)),
+            Stage::Cutting { root, used } => self.cut(rt, shared, root, used),
+            Stage::Handing { root, used, posted } => Ok(self.hand(rt, shared, root, used, posted)),
+            Stage::LettingGo => Ok(self.let_go(rt, shared)),
+            Stage::Ending { next } => Ok(self.tell(rt, shared, next)),
             Stage::Over => Ok(Stepped::Finished),
         }
     }

@@ -1,7 +1,7 @@
 //! A cutter with its source.
 
 ghost use Rattle.std.specs.Prelude.{◌≡◌};
-ghost use Rattle.frame_hash.specs.declared.shop.Shop.{Shop};
+ghost use Rattle.frame_hash.specs.declared.shared.Shared.{Shared};
 ghost use Rattle.frame_cutter.specs.declared.cutter.Cutter.{Cutter};
 ghost use Rattle.frame_cutter.specs.declared.stage.Stage.{Stage};
 ghost use Rattle.frame_cutter.specs.Standing.{CutterCame};
@@ -9,7 +9,7 @@ ghost use Rattle.frame_cutter.specs.Standing.{CutterCame};
 use crate::cutter::Cutter;
 use crate::filling::fill;
 use crate::stage::Stage;
-use frame_hash::Shop;
+use frame_hash::Shared;
 use std::alloc::AllocError;
 use std::sync::Wait;
 use text_ends::Source;
@@ -21,7 +21,7 @@ pub struct Cutting<'s, S: Source> {
     pub cutter: &'s mut Cutter,
 }
 
-impl<'a, 's, S: Source> Machine<Shop<'a>> for Cutting<'s, S> {
+impl<'a, 's, S: Source> Machine<Shared<'a>> for Cutting<'s, S> {
     ghost use Rattle.std.specs.Prelude.{◌≡◌};
     ghost use Rattle.frame_cutter.specs.declared.stage.Stage.{Stage};
     ghost use Rattle.frame_cutter.specs.Standing.{CuttingCame};
@@ -30,10 +30,10 @@ impl<'a, 's, S: Source> Machine<Shop<'a>> for Cutting<'s, S> {
 
     ghost finished = { λ c. c.cutter.now.stage ≡ Stage.Over };
 
-    fn step<R: Wait>(&mut self, rt: &R, shop: &Shop<'a>) -> Result<Stepped, AllocError> {
+    fn step<R: Wait>(&mut self, rt: &R, shared: &Shared<'a>) -> Result<Stepped, AllocError> {
         if self.cutter.stage == Stage::Filling {
-            return fill(rt, shop, self.source, self.cutter);
+            return fill(rt, shared, self.source, self.cutter);
         }
-        self.cutter.go_on(rt, shop)
+        self.cutter.go_on(rt, shared)
     }
 }

@@ -19,7 +19,7 @@ ghost use Rattle.frame_cutter.specs.Standing.{CutterCame};
 use crate::cutter::Cutter;
 use crate::loading::{Loaded, Loading, load};
 use crate::stage::{Stage, Verdict};
-use frame_hash::{RELEASE_TURNS, Shop};
+use frame_hash::{RELEASE_TURNS, Shared};
 use frame_slices::Slicer;
 use pool_law::RootId;
 use seat_work::{allocate, with_bytes_mut};
@@ -40,16 +40,16 @@ const HEAD: usize = 4;
 /// nothing is read, and it is tried again later, when a worker has let go of another.
 pub(crate) fn fill<S: Source, W: Wait>(
     rt: &W,
-    shop: &Shop,
+    shared: &Shared,
     source: &mut S,
     cutter: &mut Cutter,
 ) -> Result<Stepped, AllocError>
     requires stage { cutter.old.stage ≡ Stage.Filling }
     requires came { (first : S) × (begun : Cutter)
-        × CutterCame S.left S.faults shop.now first source.old begun cutter.old }
+        × CutterCame S.left S.faults shared.now first source.old begun cutter.old }
     ensures came { (first : S) (begun : Cutter) →
-        CutterCame S.left S.faults shop.now first source.old begun cutter.old →
-        CutterCame S.left S.faults shop.now first source.new begun cutter.new }
+        CutterCame S.left S.faults shared.now first source.old begun cutter.old →
+        CutterCame S.left S.faults shared.now first source.new begun cutter.new }
     ensures more { result ≢ Ok Stepped.Finished }
 {
     if cutter.turns < FILL_TURNS + RELEASE_TURNS {
@@ -60,7 +60,7 @@ pub(crate) fn fill<S: Source, W: Wait>(
     cutter.turns -= FILL_TURNS;
     let Ok(root) = allocate(
         rt,
-        shop.pool,
+        shared.pool,
         &mut cutter.seat,
         cutter.block,
         cutter.class,
@@ -68,13 +68,13 @@ pub(crate) fn fill<S: Source, W: Wait>(
     ) else {
         return Ok(Stepped::Waiting);
     };
-    match load_into(rt, shop.pool, source, cutter, root) {
+    match load_into(rt, shared.pool, source, cutter, root) {
         Loaded::Block { last } => {
             cutter.last = last;
             cutter.stage = Stage::Cutting { root, used: 0 };
         }
-        Loaded::Refused(why) => cutter.stop(rt, shop.pool, root, Verdict::Refused(why)),
-        Loaded::Fault => cutter.stop(rt, shop.pool, root, Verdict::Fault),
+        Loaded::Refused(why) => cutter.stop(rt, shared.pool, root, Verdict::Refused(why)),
+        Loaded::Fault => cutter.stop(rt, shared.pool, root, Verdict::Fault),
     }
     Ok(Stepped::Went)
 }

@@ -5,7 +5,7 @@ ghost use Rattle.frame_cutter.specs.Standing.{CutterStands, SameCutter};
 
 use crate::cutter::Cutter;
 use crate::stage::Stage;
-use frame_hash::Shop;
+use frame_hash::Shared;
 use job_queue::{Job, push};
 use pool_law::{Parcel, RootId};
 use seat_work::post;
@@ -18,15 +18,15 @@ impl Cutter {
     pub(crate) fn hand<W: Wait>(
         &mut self,
         rt: &W,
-        shop: &Shop,
+        shared: &Shared,
         root: RootId,
         used: usize,
         posted: usize,
     ) -> Stepped
-        requires stands { (read : List ℕ) × CutterStands shop.now self.old read }
+        requires stands { (read : List ℕ) × CutterStands shared.now self.old read }
         requires stage { self.old.stage ≡ Stage.Handing root used posted }
-        ensures stands { (read : List ℕ) → CutterStands shop.now self.old read →
-            CutterStands shop.now self.new read }
+        ensures stands { (read : List ℕ) → CutterStands shared.now self.old read →
+            CutterStands shared.now self.new read }
         ensures same { SameCutter self.old self.new }
         ensures more { result ≢ Stepped.Finished }
     {
@@ -38,7 +38,7 @@ impl Cutter {
             let parcel = Parcel {
                 view: Some(self.slices[posted]),
             };
-            post(rt, shop.pool, &mut self.seat, worker, parcel);
+            post(rt, shared.pool, &mut self.seat, worker, parcel);
             let posted = posted + 1;
             self.stage = Stage::Handing { root, used, posted };
             return Stepped::Went;
@@ -47,7 +47,7 @@ impl Cutter {
             number: self.frames,
             slices: self.slices.len() as u32,
         };
-        let queue = &shop.queues[worker as usize];
+        let queue = &shared.queues[worker as usize];
         if !push(rt, queue, &mut self.ends[worker as usize], job) {
             return Stepped::Waiting;
         }

@@ -6,14 +6,14 @@ ghost use Rattle.seat_work.specs.Changes.{once_less, once_more};
 ghost use Rattle.seat_work.specs.Hands.{empty_hand};
 ghost use Rattle.seat_work.specs.Works.{IsLater, Proceeds, Works};
 ghost use Rattle.shared_pool.specs.SeatViews.{view_of};
-ghost use Rattle.frame_hash.specs.declared.shop.Shop.{Shop};
+ghost use Rattle.frame_hash.specs.declared.shared.Shared.{Shared};
 ghost use Rattle.frame_hash.specs.declared.turns.TheConstants.{RELEASE_TURNS};
 ghost use Rattle.frame_cutter.specs.Finds.{slice_at, stage_at};
 ghost use Rattle.frame_cutter.specs.Standing.{CutterStands, SameCutter};
 
 use crate::cutter::Cutter;
 use crate::stage::Stage;
-use frame_hash::{RELEASE_TURNS, Shop};
+use frame_hash::{RELEASE_TURNS, Shared};
 use frame_slices::Found;
 use pool_law::{RootId, ViewData};
 use seat_work::{release, retain};
@@ -27,14 +27,14 @@ impl Cutter {
     pub(crate) fn cut<W: Wait>(
         &mut self,
         rt: &W,
-        shop: &Shop,
+        shared: &Shared,
         root: RootId,
         used: usize,
     ) -> Result<Stepped, AllocError>
-        requires stands { (read : List ℕ) × CutterStands shop.now self.old read }
+        requires stands { (read : List ℕ) × CutterStands shared.now self.old read }
         requires stage { self.old.stage ≡ Stage.Cutting root used }
-        ensures stands { (read : List ℕ) → CutterStands shop.now self.old read →
-            CutterStands shop.now self.new read }
+        ensures stands { (read : List ℕ) → CutterStands shared.now self.old read →
+            CutterStands shared.now self.new read }
         ensures same { SameCutter self.old self.new }
         ensures more { result ≢ Ok Stepped.Finished }
     {
@@ -42,31 +42,31 @@ impl Cutter {
             return Ok(Stepped::Waiting);
         }
         let Some(found) = self.finds.get(used).copied() else {
-            self.leave(rt, shop, root);
+            self.leave(rt, shared, root);
             return Ok(Stepped::Went);
         };
         if self.moves == 0 {
             return Ok(Stepped::Waiting);
         }
         self.slices.reserve(1)?;
-        self.take(shop, root, used, found);
+        self.take(shared, root, used, found);
         Ok(Stepped::Went)
     }
 
     // Takes what was found in the block for the present frame.
-    fn take(&mut self, shop: &Shop, root: RootId, used: usize, found: Found)
-        requires stands { (read : List ℕ) × CutterStands shop.now self.old read }
+    fn take(&mut self, shared: &Shared, root: RootId, used: usize, found: Found)
+        requires stands { (read : List ℕ) × CutterStands shared.now self.old read }
         requires stage { self.old.stage ≡ Stage.Cutting root used }
         requires found { slice_get self.old.finds.items used ≡ Some found }
         requires moves { 0 < self.old.moves }
         requires room { vec_len self.old.slices < vec_capacity self.old.slices }
-        ensures stands { (read : List ℕ) → CutterStands shop.now self.old read →
-            CutterStands shop.now self.new read }
+        ensures stands { (read : List ℕ) → CutterStands shared.now self.old read →
+            CutterStands shared.now self.new read }
         ensures same { SameCutter self.old self.new }
     {
         self.stage = behind(root, used + 1, found.ended);
         if found.start < found.used {
-            self.slice(shop.pool, root, found.start as u32, found.used as u32);
+            self.slice(shared.pool, root, found.start as u32, found.used as u32);
         }
     }
 
@@ -101,16 +101,16 @@ impl Cutter {
     }
 
     // The block is cut: its root is let go, and the next block is read, if there is one.
-    fn leave<W: Wait>(&mut self, rt: &W, shop: &Shop, root: RootId)
-        requires stands { (read : List ℕ) × CutterStands shop.now self.old read }
+    fn leave<W: Wait>(&mut self, rt: &W, shared: &Shared, root: RootId)
+        requires stands { (read : List ℕ) × CutterStands shared.now self.old read }
         requires stage { (used : ℕ) × (self.old.stage ≡ Stage.Cutting root used)
             × (vec_len self.old.finds ≤ used) }
         requires turns { RELEASE_TURNS ≤ self.old.turns }
-        ensures stands { (read : List ℕ) → CutterStands shop.now self.old read →
-            CutterStands shop.now self.new read }
+        ensures stands { (read : List ℕ) → CutterStands shared.now self.old read →
+            CutterStands shared.now self.new read }
         ensures same { SameCutter self.old self.new }
     {
-        self.drop_root(rt, shop.pool, root);
+        self.drop_root(rt, shared.pool, root);
         self.stage = Stage::Filling;
         if self.last {
             self.finish();

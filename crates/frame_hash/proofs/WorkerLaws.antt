@@ -17,7 +17,7 @@ use Rattle.shared_pool.specs.MailAnswers.{IsFetched}
 use Rattle.shared_pool.specs.SeatViews.{HasView, view_of}
 use Rattle.shared_pool.specs.Seats.{IsPoolSeat}
 use Rattle.frame_hash.specs.declared.hashes.HashOf.{HashOf}
-use Rattle.frame_hash.specs.declared.shop.Shop.{Shop}
+use Rattle.frame_hash.specs.declared.shared.Shared.{Shared}
 use Rattle.frame_hash.specs.declared.turns.TheConstants.{HASH_TURNS}
 use Rattle.frame_hash.specs.declared.worker.Hashing.{Hashing}
 use Rattle.frame_hash.specs.declared.worker.Work.TheVariants.{Frame}
@@ -110,14 +110,14 @@ module _ (f : Hashing) (js : List Job) (pieces : List (List ℕ)) (hashes : List
 
 -- ---- A worker behind a fetch.
 
-module _ (shop : Shop) (w : Worker) (f : Hashing)
-    (stands : WorkerStands shop (at_work w (Frame f))) (mid : PoolSeat) (seat : IsPoolSeat shop.pool.now mid) where
+module _ (shared : Shared) (w : Worker) (f : Hashing)
+    (stands : WorkerStands shared (at_work w (Frame f))) (mid : PoolSeat) (seat : IsPoolSeat shared.pool.now mid) where
   -- none came
-  pub waits : HasView mid (view_of w.seat) → WorkerStands shop (record w { seat = mid; work = Frame f })
+  pub waits : HasView mid (view_of w.seat) → WorkerStands shared (record w { seat = mid; work = Frame f })
   waits has =
       let same : view_of mid ≡ view_of w.seat = ap (λ m. m.0) has in
       record {
-        works = works_same shop.pool.now empty_hand w.turns 0 w.seat mid seat same stands.works;
+        works = works_same shared.pool.now empty_hand w.turns 0 w.seat mid seat same stands.works;
         lane = ap (λ (v : SeatView). v.own.number) same ∙ stands.lane;
         cutter = stands.cutter;
         number = stands.number;
@@ -129,7 +129,7 @@ module _ (shop : Shop) (w : Worker) (f : Hashing)
 
   module _ (number : ℕ) (parcel : Parcel) (fetch : IsFetched w.seat mid w.cutter number parcel)
       (enough : HASH_TURNS ≤ w.turns) where
-    started : Works shop.pool.now empty_hand 0 0 w.seat
+    started : Works shared.pool.now empty_hand 0 0 w.seat
     started = record {
       seat = stands.works.seat;
       held = stands.works.held;
@@ -139,30 +139,30 @@ module _ (shop : Shop) (w : Worker) (f : Hashing)
     }
 
     -- one came, and is still to be read
-    pub works_mid : Works shop.pool.now empty_hand HASH_TURNS 0 mid
+    pub works_mid : Works shared.pool.now empty_hand HASH_TURNS 0 mid
     works_mid =
-        works_after shop.pool.now empty_hand empty_hand w.turns 0 0 0 HASH_TURNS 0 w.seat mid stands.works
-        (fetch_proceeds shop.pool.now w.seat mid seat number started w.cutter parcel fetch).goes
+        works_after shared.pool.now empty_hand empty_hand w.turns 0 0 0 HASH_TURNS 0 w.seat mid stands.works
+        (fetch_proceeds shared.pool.now w.seat mid seat number started w.cutter parcel fetch).goes
         (omega (arith, enough)) (omega arith)
 
     module _ (new : PoolSeat) (piece : List ℕ) (hasher : Sha256) (more : ℕ)
-        (read : HasSpent shop.pool.now parcel.view piece mid new) (some : 0 < f.left)
+        (read : HasSpent shared.pool.now parcel.view piece mid new) (some : 0 < f.left)
         (updates : (m : List ℕ) → Holds256 f.hasher m → Holds256 hasher (m ++ piece))
         (long : length piece ≡ more) (low : more < 4294967296) where
-      pub hashed : WorkerStands shop (record w {
+      pub hashed : WorkerStands shared (record w {
         seat = new;
         turns = w.turns - HASH_TURNS;
         work = Frame (record { hasher = hasher; number = f.number; len = f.len + more; left = f.left - 1 });
       })
       hashed = record {
         works =
-            works_after shop.pool.now empty_hand empty_hand w.turns 0 HASH_TURNS 0 (w.turns - HASH_TURNS) 0 w.seat new
+            works_after shared.pool.now empty_hand empty_hand w.turns 0 HASH_TURNS 0 (w.turns - HASH_TURNS) 0 w.seat new
             stands.works
-            (read_goes shop.pool.now w.seat mid new w.cutter w.number number parcel piece stands.pieces started
+            (read_goes shared.pool.now w.seat mid new w.cutter w.number number parcel piece stands.pieces started
             stands.lane seat fetch read)
             (omega (arith, enough)) (omega arith);
         lane =
-            number_new shop.pool.now w.seat mid new w.cutter w.number number parcel piece stands.pieces started
+            number_new shared.pool.now w.seat mid new w.cutter w.number number parcel piece stands.pieces started
             stands.lane seat fetch read
             ∙ stands.lane;
         cutter = stands.cutter;
@@ -170,7 +170,7 @@ module _ (shop : Shop) (w : Worker) (f : Hashing)
         receives = stands.receives;
         pieces = stands.pieces ++ piece ∷ [];
         taken =
-            has_taken shop.pool.now w.seat mid new w.cutter w.number number parcel piece stands.pieces started
+            has_taken shared.pool.now w.seat mid new w.cutter w.number number parcel piece stands.pieces started
             stands.lane seat fetch read stands.taken;
         work = goes_on_with f _ stands.pieces _ stands.work hasher more piece some updates long low;
       }

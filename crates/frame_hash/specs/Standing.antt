@@ -9,7 +9,7 @@ use Rattle.seat_work.specs.Works.{Works}
 use Rattle.sha2.specs.Hashers.{Holds256}
 use Rattle.shared_pool.specs.SeatViews.{view_of}
 use Rattle.frame_hash.specs.declared.hashes.HashOf.{HashOf}
-use Rattle.frame_hash.specs.declared.shop.Shop.{Shop}
+use Rattle.frame_hash.specs.declared.shared.Shared.{Shared}
 use Rattle.frame_hash.specs.declared.worker.Hashing.{Hashing}
 use Rattle.frame_hash.specs.declared.worker.Work.{Work}
 use Rattle.frame_hash.specs.declared.worker.Work.TheVariants.{Idle, Frame, Done}
@@ -69,17 +69,17 @@ IsAtWork Done js pieces hashes = IsOver js pieces hashes
 
 -- the worker's seat has nothing in hand and so many turns left, its end is that of its queue, and it
 -- tells of the frames whose jobs it got by the pieces that it took from the cutter's lane
-pub record WorkerStands (shop : Shop) (w : Worker) : Type 0 where
-  pub works : Works shop.pool.now empty_hand w.turns 0 w.seat
+pub record WorkerStands (shared : Shared) (w : Worker) : Type 0 where
+  pub works : Works shared.pool.now empty_hand w.turns 0 w.seat
   pub lane : (view_of w.seat).own.number ≡ Some w.number
-  pub cutter : w.cutter < shop.pool.now.table.layout.shape.lanes
-  pub number : w.number < length shop.queues.now
-  pub receives : HoldsAt (λ q. IsReceiver q w.jobs) shop.queues.now w.number
+  pub cutter : w.cutter < shared.pool.now.table.layout.shape.lanes
+  pub number : w.number < length shared.queues.now
+  pub receives : HoldsAt (λ q. IsReceiver q w.jobs) shared.queues.now w.number
   pub pieces : List (List ℕ)
   pub taken : HasTaken (view_of w.seat) w.cutter w.number pieces
   pub work : IsAtWork w.work (view w.jobs).got pieces w.hashes.items
 
 -- the worker has come of the first by steps
-pub record WorkerCame (shop : Shop) (first w : Worker) : Type 0 where
-  pub stands : WorkerStands shop w
+pub record WorkerCame (shared : Shared) (first w : Worker) : Type 0 where
+  pub stands : WorkerStands shared w
   pub same : SameWorker first w

@@ -6,11 +6,11 @@
 
 mod hashes;
 mod hashing;
-mod shop;
+mod shared;
 mod turns;
 mod worker;
 
 pub use hashes::{FrameHash, HashOf};
-pub use shop::Shop;
+pub use shared::Shared;
 pub use turns::RELEASE_TURNS;
 pub use worker::{Hashing, Work, Worker};

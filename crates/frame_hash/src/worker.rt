@@ -1,11 +1,11 @@
 //! A worker: it hashes the frames that it is handed, slice by slice.
 ghost use Rattle.std.specs.Prelude.{◌≡◌, ◌≢◌, ◌<◌, Ok};
-ghost use Rattle.frame_hash.specs.declared.shop.Shop.{Shop};
+ghost use Rattle.frame_hash.specs.declared.shared.Shared.{Shared};
 ghost use Rattle.frame_hash.specs.Standing.{IsBegun, SameWorker, WorkerCame, WorkerStands, at_work};
 
 use crate::hashes::{FrameHash, HashOf};
 use crate::hashing::hash_parcel;
-use crate::shop::Shop;
+use crate::shared::Shared;
 use crate::turns::HASH_TURNS;
 use job_queue::{Job, JobEnd, pop};
 use sha2::{Digest, Sha256};
@@ -65,29 +65,29 @@ pub struct Worker {
     pub work: Work,
 }
 
-impl<'a> Machine<Shop<'a>> for Worker {
+impl<'a> Machine<Shared<'a>> for Worker {
     ghost use Rattle.frame_hash.specs.declared.worker.Work.{Work};
 
     ghost comes = { WorkerCame };
 
     ghost finished = { λ worker. worker.work ≡ Work.Done };
 
-    fn step<R: Wait>(&mut self, rt: &R, shop: &Shop<'a>) -> Result<Stepped, AllocError> {
-        self.go_on(rt, shop)
+    fn step<R: Wait>(&mut self, rt: &R, shared: &Shared<'a>) -> Result<Stepped, AllocError> {
+        self.go_on(rt, shared)
     }
 }
 
 impl Worker {
     /// The next thing that it has to do.
-    pub fn go_on<W: Wait>(&mut self, rt: &W, shop: &Shop) -> Result<Stepped, AllocError>
-        requires { WorkerStands shop.now self.old }
-        ensures stands { WorkerStands shop.now self.new }
+    pub fn go_on<W: Wait>(&mut self, rt: &W, shared: &Shared) -> Result<Stepped, AllocError>
+        requires { WorkerStands shared.now self.old }
+        ensures stands { WorkerStands shared.now self.new }
         ensures same { SameWorker self.old self.new }
         ensures finished { result ≡ Ok Stepped.Finished → self.new.work ≡ Work.Done }
     {
         match replace(&mut self.work, Work::Idle) {
-            Work::Idle => Ok(self.take_job(rt, shop)),
-            Work::Frame(frame) => self.go_on_with(rt, shop, frame),
+            Work::Idle => Ok(self.take_job(rt, shared)),
+            Work::Frame(frame) => self.go_on_with(rt, shared, frame),
             Work::Done => {
                 self.work = Work::Done;
                 Ok(Stepped::Finished)
@@ -96,14 +96,14 @@ impl Worker {
     }
 
     // Begins with the next frame, if one came.
-    fn take_job<W: Wait>(&mut self, rt: &W, shop: &Shop) -> Stepped
-        requires stands { WorkerStands shop.now self.old }
+    fn take_job<W: Wait>(&mut self, rt: &W, shared: &Shared) -> Stepped
+        requires stands { WorkerStands shared.now self.old }
         requires idle { self.old.work ≡ Work.Idle }
-        ensures stands { WorkerStands shop.now self.new }
+        ensures stands { WorkerStands shared.now self.new }
         ensures same { SameWorker self.old self.new }
         ensures more { result ≢ Stepped.Finished }
     {
-        let queue = &shop.queues[self.number as usize];
+        let queue = &shared.queues[self.number as usize];
         match pop(rt, queue, &mut self.jobs) {
             None => Stepped::Waiting,
             Some(Job::End) => {
@@ -121,12 +121,12 @@ impl Worker {
     fn go_on_with<W: Wait>(
         &mut self,
         rt: &W,
-        shop: &Shop,
+        shared: &Shared,
         frame: Hashing,
     ) -> Result<Stepped, AllocError>
-        requires stands { WorkerStands shop.now (at_work self.old (Work.Frame frame)) }
+        requires stands { WorkerStands shared.now (at_work self.old (Work.Frame frame)) }
         requires idle { self.old.work ≡ Work.Idle }
-        ensures stands { WorkerStands shop.now self.new }
+        ensures stands { WorkerStands shared.now self.new }
         ensures same { SameWorker self.old self.new }
         ensures more { result ≢ Ok Stepped.Finished }
     {
@@ -134,20 +134,20 @@ impl Worker {
             self.finish(frame)?;
             return Ok(Stepped::Went);
         }
-        self.hash_next(rt, shop, frame)
+        self.hash_next(rt, shared, frame)
     }
 
     // Hashes the next slice of a frame, if it came, and tells of the frame behind the last.
     fn hash_next<W: Wait>(
         &mut self,
         rt: &W,
-        shop: &Shop,
+        shared: &Shared,
         frame: Hashing,
     ) -> Result<Stepped, AllocError>
-        requires stands { WorkerStands shop.now (at_work self.old (Work.Frame frame)) }
+        requires stands { WorkerStands shared.now (at_work self.old (Work.Frame frame)) }
         requires idle { self.old.work ≡ Work.Idle }
         requires left { 0 < frame.left }
-        ensures stands { WorkerStands shop.now self.new }
+        ensures stands { WorkerStands shared.now self.new }
         ensures same { SameWorker self.old self.new }
         ensures more { result ≢ Ok Stepped.Finished }
     {
@@ -155,7 +155,7 @@ impl Worker {
             self.work = Work::Frame(frame);
             return Ok(Stepped::Waiting);
         }
-        let parcel = match shop.pool.fetch(rt, &mut self.seat, self.cutter) {
+        let parcel = match shared.pool.fetch(rt, &mut self.seat, self.cutter) {
             Fetched::Got(_number, parcel) => parcel,
             Fetched::Empty => {
                 self.work = Work::Frame(frame);
@@ -168,7 +168,7 @@ impl Worker {
             len,
             left,
         } = frame;
-        let (hasher, more) = hash_parcel(rt, shop.pool, &mut self.seat, parcel, hasher);
+        let (hasher, more) = hash_parcel(rt, shared.pool, &mut self.seat, parcel, hasher);
         self.turns -= HASH_TURNS;
         let frame = Hashing {
             hasher,
@@ -188,8 +188,9 @@ impl Worker {
     fn finish(&mut self, frame: Hashing) -> Result<(), AllocError>
         requires whole { frame.left ≡ 0 }
         requires idle { self.old.work ≡ Work.Idle }
-        ensures stands { (shop : Shop) → WorkerStands shop (at_work self.old (Work.Frame frame)) →
-            WorkerStands shop self.new }
+        ensures stands { (shared : Shared)
+            → WorkerStands shared (at_work self.old (Work.Frame frame))
+            → WorkerStands shared self.new }
         ensures same { SameWorker self.old self.new }
     {
         if self.hashes.reserve(1).is_err() {

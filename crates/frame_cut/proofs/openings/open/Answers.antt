@@ -18,7 +18,7 @@ returns-in-Ok c =
     c.new_cutter-cutter.ensures
     (let a = c.requires.block.least in omega (arith, a)) c.requires.block.greatest c.in_ok-class.ensures (
       none_left seats.items w c.new_workers-workers.new.seats.items c.remove-seat.new.self.items many h.left
-      r.by_index.2,
+          r.by_index.2,
       (let a = r.capacity in let b = h.room in let d = seats.ok.0 in let e = seats.ok.1 in
           omega (arith, a, b, d, e, many)),
     ) (c.in_ok-told.ensures.items, c.in_ok-told.ensures.capacity)

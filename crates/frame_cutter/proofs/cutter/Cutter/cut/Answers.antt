@@ -16,14 +16,14 @@ copied-there (Some x) xs k f m e =
 
 pub returns-in_err-reserve-clause-stands : goal.returns-in_err-reserve-clause-stands
 returns-in_err-reserve-clause-stands g c read stands =
-    reserved c.args.shop.now c.args.self.now read stands c.args.root c.args.used c.requires.stage c.reserve.new.self
+    reserved c.args.shared.now c.args.self.now read stands c.args.root c.args.used c.requires.stage c.reserve.new.self
     c.reserve.ensures.items
 
 pub take-requires-clause-stands : goal.take-requires-clause-stands
 take-requires-clause-stands g c =
     let stands = c.requires.stands in (
       stands.0,
-      reserved c.args.shop.now c.args.self.now stands.0 stands.1 c.args.root c.args.used c.requires.stage
+      reserved c.args.shared.now c.args.self.now stands.0 stands.1 c.args.root c.args.used c.requires.stage
           c.reserve.new.self c.reserve.ensures.items,
     )
 
@@ -36,5 +36,5 @@ take-requires-clause-found g c =
 pub returns-clause-stands : goal.returns-clause-stands
 returns-clause-stands g c read stands =
     c.take.ensures.stands read
-    (reserved c.args.shop.now c.args.self.now read stands c.args.root c.args.used c.requires.stage c.reserve.new.self
+    (reserved c.args.shared.now c.args.self.now read stands c.args.root c.args.used c.requires.stage c.reserve.new.self
     c.reserve.ensures.items)

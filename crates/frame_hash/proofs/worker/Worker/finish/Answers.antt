@@ -8,7 +8,7 @@ use Rattle.frame_hash.proofs.WorkerLaws.{tells_of}
 use Rattle.frame_hash.proofs.worker.Worker.finish.Goals as goal
 
 pub returns-clause-stands : goal.returns-clause-stands
-returns-clause-stands c shop stands =
+returns-clause-stands c shared stands =
     let w = c.args.self.now in
     let f = c.args.frame in
     let got = (view w.jobs).got in

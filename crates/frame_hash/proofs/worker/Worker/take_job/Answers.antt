@@ -16,7 +16,7 @@ returns-in-Some-Frame-clause-stands g c =
     let stands = c.requires.stands in
     let came = c.in-Some-Frame in
     let got = (view w.jobs).got in
-    let queues = c.args.shop.now.queues.now in
+    let queues = c.args.shared.now.queues.now in
     let job : c.pop.result ≡ Some (jobs.Frame came.number came.slices) = cc in
     let told = subst (λ (x : Work). IsAtWork x got stands.pieces w.hashes.items) c.requires.idle stands.work in
     record {
@@ -26,7 +26,7 @@ returns-in-Some-Frame-clause-stands g c =
       number = stands.number;
       receives =
           λ d. subst (λ q. IsReceiver q c.pop.new.end)
-          (get_or_default queues w.number c.index-shop-self.result d stands.number)
+          (get_or_default queues w.number c.index-shared-self.result d stands.number)
           c.pop.ensures.receiver;
       pieces = stands.pieces;
       taken = stands.taken;

@@ -5,7 +5,7 @@ use shared_pool::SharedPool;
 
 /// The pool, and the queues of the workers, by number.
 #[derive(Clone, Copy)]
-pub struct Shop<'a> {
+pub struct Shared<'a> {
     pub pool: &'a SharedPool,
     pub queues: &'a [JobQueue],
 }

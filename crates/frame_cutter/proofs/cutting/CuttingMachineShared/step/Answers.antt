@@ -1,6 +1,6 @@
 use Rattle.std.proofs.Common.{refl}
 use Rattle.frame_cutter.proofs.CameLaws.{worked}
-use Rattle.frame_cutter.proofs.cutting.CuttingMachineShop.step.Goals as goal
+use Rattle.frame_cutter.proofs.cutting.CuttingMachineShared.step.Goals as goal
 
 pub fill-requires-clause-came : goal.fill-requires-clause-came
 fill-requires-clause-came g c =
@@ -19,6 +19,6 @@ returns-clause-comes g c first came =
       source = came.source;
       cutter = came.cutter;
       came =
-          worked g.S.Source.left g.S.Source.faults c.args.shop.now first.source.now self.source.now self.source.now
+          worked g.S.Source.left g.S.Source.faults c.args.shared.now first.source.now self.source.now self.source.now
           first.cutter.now self.cutter.now c.go_on.new.self came.came refl c.go_on.ensures.stands c.go_on.ensures.same;
     }
