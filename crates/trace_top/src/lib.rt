@@ -2,12 +2,12 @@
 #![tactic(auto)]
 
 mod answer;
+mod environment;
 mod gates;
 mod lanes;
 mod line;
 mod needs;
 mod play;
-mod scene;
 mod top;
 mod workers;
 mod written;

@@ -5,7 +5,7 @@ ghost use Rattle.lane_core.specs.Lanes.{IsFinished, IsLane};
 ghost use Rattle.work_table.specs.Places.{EachCame};
 ghost use Rattle.trace_top.specs.Standing.{AllFinished, AllRun, AreLanes, AreNumbered, HasCome};
 
-use crate::scene::{Scene, step_lane};
+use crate::environment::{Environment, step_lane};
 use lane_core::{Gate, Lane};
 use shared_pool::SharedPool;
 use std::alloc::{AllocError, Global};
@@ -52,6 +52,6 @@ fn stepped<R: Threads + Wait + Sync, G: Gate>(
         ensures came { HasCome (G.stops gate.entry.now) pool.entry.now lane.old lane.new }
         ensures finished { result ≡ Ok Stepped.Finished → IsFinished lane.new }
     { step_lane(rt, alloc, pool, gate, lane) };
-    let scene = Scene { pool, gate, step };
-    work_table::step_together(rt, alloc, &scene, lanes, workers)
+    let environment = Environment { pool, gate, step };
+    work_table::step_together(rt, alloc, &environment, lanes, workers)
 }

@@ -11,22 +11,26 @@ use work_table::{Machine, Stepped};
 
 /// The pool, the gate that may stop a lane, and what steps a lane over them.
 #[derive(Drop)]
-pub struct Scene<'a, G, F> {
+pub struct Environment<'a, G, F> {
     pub pool: &'a SharedPool,
     pub gate: &'a G,
     pub step: F,
 }
 
-impl<'a, G: Gate, F: Fn(&mut Lane) -> Result<Stepped, AllocError>> Machine<Scene<'a, G, F>>
+impl<'a, G: Gate, F: Fn(&mut Lane) -> Result<Stepped, AllocError>> Machine<Environment<'a, G, F>>
     for Lane {
-    ghost comes = { λ scene first lane.
-        StepsLanes F.Fn scene.step (G.stops scene.gate.now) scene.pool.now
-        × HasCome (G.stops scene.gate.now) scene.pool.now first lane };
+    ghost comes = { λ environment first lane.
+        StepsLanes F.Fn environment.step (G.stops environment.gate.now) environment.pool.now
+        × HasCome (G.stops environment.gate.now) environment.pool.now first lane };
 
     ghost finished = { IsFinished };
 
-    fn step<R: Wait>(&mut self, _rt: &R, scene: &Scene<'a, G, F>) -> Result<Stepped, AllocError> {
-        (scene.step)(self)
+    fn step<R: Wait>(
+        &mut self,
+        _rt: &R,
+        environment: &Environment<'a, G, F>,
+    ) -> Result<Stepped, AllocError> {
+        (environment.step)(self)
     }
 }
 

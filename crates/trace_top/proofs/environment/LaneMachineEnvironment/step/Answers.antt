@@ -1,5 +1,5 @@
 use Rattle.trace_top.proofs.Tables.{came_on}
-use Rattle.trace_top.proofs.scene.LaneMachineScene.step.Goals as goal
+use Rattle.trace_top.proofs.environment.LaneMachineEnvironment.step.Goals as goal
 
 pub returns-clause-comes : goal.returns-clause-comes
 returns-clause-comes g c first came =
