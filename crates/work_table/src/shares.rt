@@ -6,7 +6,7 @@ use crate::worker::Worker;
 use std::sync::ledger::{Ledger, Share};
 
 /// So many workers, each with one part of the ledger, of which one part is left.
-pub fn hired<T: Ledger>(
+pub fn with_shares<T: Ledger>(
     mut workers: Vec<Worker<T>>,
     mut all: Share<T>,
     count: usize,
@@ -25,7 +25,7 @@ pub fn hired<T: Ledger>(
 }
 
 /// The shares of all workers with this one.
-pub fn gathered<T: Ledger>(mut workers: Vec<Worker<T>>, mut all: Share<T>) -> Share<T>
+pub fn merged<T: Ledger>(mut workers: Vec<Worker<T>>, mut all: Share<T>) -> Share<T>
     requires { (all.parts ≡ 1) × (all.amount ≡ 0) }
     ensures { (result.parts ≡ vec_len workers + 1) × (result.amount ≡ 0) }
 {

@@ -7,7 +7,7 @@ use crate::idler::Idler;
 use crate::machine::Machine;
 use crate::own::{Duty, step_own};
 use crate::pace::Pace;
-use crate::shares::{gathered, hired};
+use crate::shares::{merged, with_shares};
 use crate::steps::step_all;
 use crate::table::{Playing, Status, Table};
 use crate::worker::{Worker, work};
@@ -107,7 +107,7 @@ fn step_as<
         return (machines, Err(AllocError));
     };
     let (book, all) = blank.open::<T>();
-    let (others, share) = hired(workers, all, worker_count - 1, pace);
+    let (others, share) = with_shares(workers, all, worker_count - 1, pace);
     let (table, machines) = Table::<M, T>::of(machines, places, statuses, book);
     let mine = Worker { share, pace };
     let changes = EventCount::new();
@@ -165,7 +165,7 @@ fn at_work<
         );
     }
     let Worker { share, pace: _ } = mine;
-    let all = gathered(others, share);
+    let all = merged(others, share);
     (ManuallyDrop::into_inner(lock.into_inner()), all)
 }
 
