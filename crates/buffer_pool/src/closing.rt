@@ -68,10 +68,10 @@ impl<B: PoolName> Pool<B> {
         let CloseMemory {
             members,
             seats,
-            rests,
+            records,
         } = room;
         let (members, threads) = members_of::<B>(&shared, threads, members);
-        match close_all(alloc, lanes, shared, members, seats, rests) {
+        match close_all(alloc, lanes, shared, members, seats, records) {
             Ok(closed) => {
                 threads.destroy_empty();
                 Ok(closed)

@@ -80,9 +80,10 @@ fn close_taken(
     requires some { 0 < vec_len all }
     requires taken { AreTaken threads.old }
     requires one { AreOne (map box_value all.items) }
-    requires empty { (room.members.items ≡ []) × (room.seats.items ≡ []) × (room.rests.items ≡ []) }
+    requires empty { (room.members.items ≡ []) × (room.seats.items ≡ [])
+        × (room.records.items ≡ []) }
     requires room { (vec_len all ≤ vec_capacity room.members)
-        × (vec_len all ≤ vec_capacity room.seats) × (vec_len all ≤ vec_capacity room.rests) }
+        × (vec_len all ≤ vec_capacity room.seats) × (vec_len all ≤ vec_capacity room.records) }
     ensures ended { IfOk result (HasEndedAs (map box_value all.items)) }
     ensures empty { IfOk result (λ _. AreEmpty threads.new) }
     ensures back { IfErr result (λ why. IsLate why
@@ -91,7 +92,7 @@ fn close_taken(
     let CloseMemory {
         members,
         seats,
-        rests,
+        records,
     } = room;
     let (common, members) = unboxed(all, members);
     let common = match Arc::try_unwrap(common) {
@@ -103,7 +104,7 @@ fn close_taken(
         }
     };
     let (shared, sizes, lanes, name) = common.apart();
-    match close_all(alloc, lanes, shared, members, seats, rests) {
+    match close_all(alloc, lanes, shared, members, seats, records) {
         Ok(closed) => {
             empty_all(threads);
             Ok(PoolEnd {

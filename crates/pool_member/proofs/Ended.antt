@@ -12,7 +12,7 @@ use Rattle.seat_work.specs.Hands.{IsHeld}
 use Rattle.seat_work.proofs.FirstSeats.{has_nothing}
 use Rattle.pool_member.specs.declared.member.Member.{Member}
 use Rattle.pool_member.specs.declared.pending.Pending.{Pending}
-use Rattle.pool_member.specs.Closing.{AreAll, parts_of, rest_of}
+use Rattle.pool_member.specs.Closing.{AreAll, parts_of, records_of}
 use Rattle.pool_member.specs.Pendings.{hand_of}
 use Rattle.pool_member.specs.Threads.{IsSettled, IsThread}
 
@@ -68,14 +68,14 @@ all_behind : (m : Member) (ms : List Member) → All IsSettled (m ∷ ms) → Al
 all_behind m ms all = λ k d lt. all (suc k) d (omega (arith, lt))
 
 pub members_same : (xs ys : List Member) → All IsSettled xs → All IsSettled ys → map seat_of xs ≡ map seat_of ys
-    → map rest_of xs ≡ map rest_of ys → xs ≡ ys
+    → map records_of xs ≡ map records_of ys → xs ≡ ys
 unfolding first_or rest_list
-members_same [] [] a b seats rests = refl
-members_same [] (y ∷ ys) a b seats rests = absurd (cc seats)
-members_same (x ∷ xs) [] a b seats rests = absurd (cc seats)
-members_same (x ∷ xs) (y ∷ ys) a b seats rests =
+members_same [] [] a b seats records = refl
+members_same [] (y ∷ ys) a b seats records = absurd (cc seats)
+members_same (x ∷ xs) [] a b seats records = absurd (cc seats)
+members_same (x ∷ xs) (y ∷ ys) a b seats records =
     let seat : x.seat ≡ y.seat = ap (first_or x.seat) seats in
-    let rest : rest_of x ≡ rest_of y = ap (first_or (rest_of x)) rests in
+    let rest : records_of x ≡ records_of y = ap (first_or (records_of x)) records in
     let pending : x.pending ≡ y.pending = all_first x xs a ∙ sym (all_first y ys b) in
     let same : x ≡ y = λ i. record {
       seat = seat i;
@@ -84,4 +84,4 @@ members_same (x ∷ xs) (y ∷ ys) a b seats rests =
       watcher = (rest i).watcher;
     } in
     λ i.
-    same i ∷ members_same xs ys (all_behind x xs a) (all_behind y ys b) (ap rest_list seats) (ap rest_list rests) i
+    same i ∷ members_same xs ys (all_behind x xs a) (all_behind y ys b) (ap rest_list seats) (ap rest_list records) i

@@ -5,7 +5,7 @@ use Rattle.shared_pool.specs.declared.pool.SharedPool.{SharedPool}
 use Rattle.shared_pool.specs.SeatViews.{view_of}
 use Rattle.pool_member.specs.declared.answers.CloseNo.{CloseNo}
 use Rattle.pool_member.specs.declared.answers.CloseNo.TheVariants as no
-use Rattle.pool_member.specs.declared.closing.Rest.{Rest}
+use Rattle.pool_member.specs.declared.closing.Records.{Records}
 use Rattle.pool_member.specs.declared.member.Member.{Member}
 use Rattle.pool_member.specs.Threads.{IsSettled}
 
@@ -22,8 +22,8 @@ abbrev pub AreAll : SharedPool → List Member → Type 0
 AreAll pool members = AreAllOf pool.table.layout.shape.lanes members
 
 -- what a thread has beside its seat
-abbrev pub rest_of : Member → Rest
-rest_of m = record { account = m.account; watcher = m.watcher }
+abbrev pub records_of : Member → Records
+records_of m = record { account = m.account; watcher = m.watcher }
 
 -- the cause of a refusal
 abbrev pub MayRefuse : SharedPool → List Member → CloseNo → Type 0

@@ -5,7 +5,7 @@ ghost use Rattle.size_classes.specs.Sizes.{below};
 ghost use Rattle.pool_law.specs.Legal.{ends_from};
 ghost use Rattle.shared_pool.specs.Closing.{logs_in};
 ghost use Rattle.shared_pool.specs.Live.{AreLiveRoots};
-ghost use Rattle.pool_member.specs.Closing.{AreAll, AreAllOf, MayRefuse, parts_of, rest_of};
+ghost use Rattle.pool_member.specs.Closing.{AreAll, AreAllOf, MayRefuse, parts_of, records_of};
 ghost use Rattle.pool_member.specs.Threads.{IsSettled, IsThread};
 
 use crate::account::Account;
@@ -16,9 +16,9 @@ use crate::work::settling::{is_nothing, nothing, spend};
 use shared_pool::{PoolSeat, SharedPool};
 use std::alloc::{AllocError, Global};
 
-/// What a thread has beside its seat.
+/// What a thread keeps beside its seat.
 #[derive(Drop)]
-pub struct Rest {
+pub struct Records {
     /// What it counts, and what it has left.
     pub account: Account,
     /// Which of its allocations are watched.
@@ -31,19 +31,19 @@ pub struct CloseMemory {
     pub members: Vec<Member>,
     /// For their seats.
     pub seats: Vec<PoolSeat>,
-    /// For what they have beside their seats.
-    pub rests: Vec<Rest>,
+    /// For what they keep beside their seats.
+    pub records: Vec<Records>,
 }
 
 impl CloseMemory {
     /// That for so many threads.
     pub fn take(alloc: Global, threads: usize) -> Result<CloseMemory, AllocError>
         ensures empty { IfOk result (λ r. (r.members.items ≡ []) × (r.seats.items ≡ [])
-            × (r.rests.items ≡ [])) }
+            × (r.records.items ≡ [])) }
         ensures room { IfOk result (λ r. (threads ≤ vec_capacity r.members)
-            × (threads ≤ vec_capacity r.seats) × (threads ≤ vec_capacity r.rests)) }
+            × (threads ≤ vec_capacity r.seats) × (threads ≤ vec_capacity r.records)) }
     {
-        let rests = Vec::with_capacity(alloc, threads)?;
+        let records = Vec::with_capacity(alloc, threads)?;
         let members = Vec::with_capacity(alloc, threads)?;
         let Ok(seats) = Vec::with_capacity(alloc, threads) else {
             members.destroy_empty();
@@ -52,7 +52,7 @@ impl CloseMemory {
         Ok(CloseMemory {
             members,
             seats,
-            rests,
+            records,
         })
     }
 }
@@ -65,13 +65,13 @@ pub fn close_all(
     shared: SharedPool,
     members: Vec<Member>,
     seats: Vec<PoolSeat>,
-    rests: Vec<Rest>,
+    records: Vec<Records>,
 ) -> Result<Closed, (CloseNo, SharedPool, Vec<Member>)>
     requires lanes { lanes ≡ shared.table.layout.shape.lanes }
     requires members { All (IsThread shared) members.items }
-    requires empty { (seats.items ≡ []) × (rests.items ≡ []) }
+    requires empty { (seats.items ≡ []) × (records.items ≡ []) }
     requires room { (vec_len members ≤ vec_capacity seats)
-        × (vec_len members ≤ vec_capacity rests) }
+        × (vec_len members ≤ vec_capacity records) }
     ensures all { IfOk result (λ closed. AreAll shared members.items) }
     ensures chunks { IfOk result (λ closed. let shape = shared.table.layout.shape in
         closed.chunks ≡ ends_from shape (logs_in (parts_of members.items)) (below shape.arenas)) }
@@ -88,7 +88,7 @@ pub fn close_all(
         seats.destroy_empty();
         return Err((CloseNo::Unsettled, shared, members));
     }
-    let (seats, rests, members) = parted(members, seats, rests);
+    let (seats, records, members) = parted(members, seats, records);
     match shared.close_at_once(alloc, seats) {
         Ok(end) => {
             members.destroy_empty();
@@ -98,7 +98,7 @@ pub fn close_all(
             })
         }
         Err((shared, seats)) => {
-            let members = joined(seats, rests, members);
+            let members = joined(seats, records, members);
             Err((CloseNo::Memory, shared, members))
         }
     }
@@ -135,14 +135,14 @@ fn are_settled(members: &[Member]) -> bool
 fn parted(
     mut members: Vec<Member>,
     mut seats: Vec<PoolSeat>,
-    mut rests: Vec<Rest>,
-) -> (Vec<PoolSeat>, Vec<Rest>, Vec<Member>)
+    mut records: Vec<Records>,
+) -> (Vec<PoolSeat>, Vec<Records>, Vec<Member>)
     requires settled { All IsSettled members.items }
-    requires empty { (seats.items ≡ []) × (rests.items ≡ []) }
+    requires empty { (seats.items ≡ []) × (records.items ≡ []) }
     requires room { (vec_len members ≤ vec_capacity seats)
-        × (vec_len members ≤ vec_capacity rests) }
+        × (vec_len members ≤ vec_capacity records) }
     ensures seats { result.0.items ≡ map (λ m. m.seat) members.items }
-    ensures rests { result.1.items ≡ map rest_of members.items }
+    ensures records { result.1.items ≡ map records_of members.items }
     ensures left { (result.2.items ≡ []) × (vec_len result.0 ≤ vec_capacity result.2) }
 {
     for _made in 0..members.len() {
@@ -154,23 +154,27 @@ fn parted(
         } = members.remove(0);
         spend(pending);
         seats.push_reserved(seat);
-        rests.push_reserved(Rest { account, watcher });
+        records.push_reserved(Records { account, watcher });
     }
-    (seats, rests, members)
+    (seats, records, members)
 }
 
 // The threads with these seats and the rest of each, in a list with room for them.
-fn joined(mut seats: Vec<PoolSeat>, mut rests: Vec<Rest>, mut members: Vec<Member>) -> Vec<Member>
-    requires many { vec_len seats ≡ vec_len rests }
+fn joined(
+    mut seats: Vec<PoolSeat>,
+    mut records: Vec<Records>,
+    mut members: Vec<Member>,
+) -> Vec<Member>
+    requires many { vec_len seats ≡ vec_len records }
     requires empty { members.items ≡ [] }
     requires room { vec_len seats ≤ vec_capacity members }
     ensures settled { All IsSettled result.items }
     ensures seats { map (λ m. m.seat) result.items ≡ seats.items }
-    ensures rests { map rest_of result.items ≡ rests.items }
+    ensures records { map records_of result.items ≡ records.items }
 {
     for _made in 0..seats.len() {
         let seat = seats.remove(0);
-        let Rest { account, watcher } = rests.remove(0);
+        let Records { account, watcher } = records.remove(0);
         members.push_reserved(Member {
             seat,
             account,

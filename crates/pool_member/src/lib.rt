@@ -19,7 +19,7 @@ pub use answers::{
     AcceptNo, AccessNo, AllocNo, CapacityNo, CloseNo, Closed, OpenNo, PartNo, TrimNo, TryAllocNo,
     TryCapacityNo, TryNo, TryTrimNo,
 };
-pub use closing::{CloseMemory, Rest, close_all};
+pub use closing::{CloseMemory, Records, close_all};
 pub use config::Config;
 pub use counts::OwnCounts;
 pub use member::Member;

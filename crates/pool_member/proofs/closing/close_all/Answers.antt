@@ -43,5 +43,5 @@ returns-in-Err-clause-back c =
     subst (All IsSettled) c.deref-2.ensures.value (c.are_settled.ensures.0 c.if-not-are_settled.false) in (
       back.0,
       members_same c.joined-members.result.items c.args.members.items joined.settled settled seats
-          (joined.rests ∙ parted.rests),
+          (joined.records ∙ parted.records),
     )

@@ -16,9 +16,9 @@ loop-made-preserved c =
     } in
     record {
       seats = first_of (search rules, grind (arith, common_steps));
-      rests = first_of (search rules, grind (arith, common_steps));
+      records = first_of (search rules, grind (arith, common_steps));
       seats_left = omega arith;
-      rests_left = omega arith;
+      records_left = omega arith;
       made = omega arith;
       room = omega arith;
       settled =

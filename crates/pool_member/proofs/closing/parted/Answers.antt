@@ -9,12 +9,12 @@ pub loop-made-preserved : goal.loop-made-preserved
 loop-made-preserved c =
     record {
       seats = first_of (search rules, grind (arith, common_steps));
-      rests = first_of (search rules, grind (arith, common_steps));
+      records = first_of (search rules, grind (arith, common_steps));
       left = omega arith;
       seats_made = omega arith;
-      rests_made = omega arith;
+      records_made = omega arith;
       seats_room = omega arith;
-      rests_room = omega arith;
+      records_room = omega arith;
       back = omega arith;
       settled =
           subst (All IsSettled) (sym c.remove-seat.ensures.items)
