@@ -145,8 +145,8 @@ shown_region r =
     region_told (record { arena = 0; chunk = r.place.chunk; offset = r.place.offset; len = 0 }) r.taking 0
 
 -- its taking alone
-abbrev pub taking_told : RegionId → RegionId
-taking_told r = region_told nowhere r.taking 0
+abbrev pub taking_alone : RegionId → RegionId
+taking_alone r = region_told nowhere r.taking 0
 
 -- where it begins to be used: its place but for the bytes, its taking, and its uses
 abbrev pub use_told : RegionId → RegionId
@@ -172,13 +172,13 @@ abbrev pub did_told : Did → Did
 did_told (Did.Take class region) = Did.Take class (shown_region region)
 did_told (Did.Full class) = Did.Full class
 did_told (Did.Give region) = Did.Give (shown_region region)
-did_told (Did.Hit region) = Did.Hit (taking_told region)
+did_told (Did.Hit region) = Did.Hit (taking_alone region)
 did_told Did.Miss = Did.Miss
-did_told (Did.Kept region) = Did.Kept (taking_told region)
-did_told (Did.Back region why) = Did.Back (taking_told region) why
+did_told (Did.Kept region) = Did.Kept (taking_alone region)
+did_told (Did.Back region why) = Did.Back (taking_alone region) why
 did_told (Did.Trim quota) = Did.Trim quota
 did_told (Did.Close quota) = Did.Close quota
-did_told (Did.Shed region) = Did.Shed (taking_told region)
+did_told (Did.Shed region) = Did.Shed (taking_alone region)
 did_told (Did.Handle place) = Did.Handle place
 did_told Did.NoHandle = Did.NoHandle
 did_told (Did.Home place) = Did.Home place

@@ -7,7 +7,7 @@ ghost use Rattle.pool_law.specs.declared.id.RootId.{RootId};
 ghost use Rattle.pool_law.specs.declared.id.ViewData.{ViewData};
 ghost use Rattle.pool_law.specs.declared.note.CacheNo.{CacheNo};
 ghost use Rattle.run_text.specs.Reading.{Gives};
-ghost use Rattle.run_text.specs.Told.{FitsParcel, FitsRegion, FitsUse, FitsView, region_told, root_told, seen_of, shown_region, taking_told, use_told, view_told};
+ghost use Rattle.run_text.specs.Told.{FitsParcel, FitsRegion, FitsUse, FitsView, region_told, root_told, seen_of, shown_region, taking_alone, use_told, view_told};
 
 use crate::words::Words;
 use crate::{LineNo, TextNo};
@@ -47,7 +47,7 @@ pub fn spot(words: &mut Words) -> Result<RegionId, TextNo>
 pub fn taking(words: &mut Words) -> Result<RegionId, TextNo>
     ensures { (region : RegionId) (more : List Text) → region.taking < 2 ^ 64
         → words.old.rest.now ≡ spaced (decimal region.taking ∷ more)
-        → Gives result words.new.rest.now (taking_told region) more }
+        → Gives result words.new.rest.now (taking_alone region) more }
 {
     let taking = words.number()?;
     let nowhere = Place {
