@@ -23,15 +23,15 @@ use Rattle.pool_member.specs.Windows.{Window}
 use Rattle.pool_c.specs.declared.buffer.PoolBuffer.{PoolBuffer}
 use Rattle.pool_c.specs.declared.codes.Refusal.TheVariants as no
 use Rattle.pool_c.specs.declared.held.Common.{Common}
-use Rattle.pool_c.specs.Growing.{as_refusal, capacity_refusal, Grows, HasGrown, StopsGrowing}
-use Rattle.pool_c.specs.Refusals.{as_refusal as as_access, buffer_refusal, root_of, window_of}
+use Rattle.pool_c.specs.Growing.{of_capacity, capacity_refusal, Grows, HasGrown, StopsGrowing}
+use Rattle.pool_c.specs.Refusals.{of_access, buffer_refusal, root_of, window_of}
 use Rattle.pool_c.proofs.Allocated.{here_of}
 use Rattle.pool_c.proofs.CallLaws.{begun_call}
 
 -- a call that may begin is on a buffer that is here
 begins : (named here spent : Bool)
     → (if named
-    then option_map as_access (if here then (if spent then Some access.Spent else None) else Some access.NotHere)
+    then option_map of_access (if here then (if spent then Some access.Spent else None) else Some access.NotHere)
     else Some no.NotHere) ≡ None → (named ≡ true) × (here ≡ true)
 begins true true spent may = (refl, refl)
 begins true false spent may = absurd (cc may)
@@ -39,7 +39,7 @@ begins false here spent may = absurd (cc may)
 
 may_ask : (named here large spent : Bool) → named ≡ true → here ≡ true → large ≡ false → spent ≡ false
     → (if named
-    then option_map as_refusal (if here
+    then option_map of_capacity (if here
     then (if large then Some capacity.TooLarge else (if spent then Some capacity.Spent else None))
     else Some capacity.NotHere)
     else Some no.NotHere) ≡ None

@@ -19,7 +19,7 @@ use Rattle.pool_c.specs.declared.carried.Carried.{Carried}
 use Rattle.pool_c.specs.declared.codes.Refusal.{Refusal}
 use Rattle.pool_c.specs.declared.codes.Refusal.TheVariants.{NoThread, NotHere}
 use Rattle.pool_c.specs.declared.held.Common.{Common}
-use Rattle.pool_c.specs.Parcels.{accept_refusal, arrived, as_refusal, HasAccepted, HasParted, letter_refusal, part_refusal, sent_view}
+use Rattle.pool_c.specs.Parcels.{accept_refusal, arrived, of_accept, HasAccepted, HasParted, letter_refusal, part_refusal, sent_view}
 use Rattle.pool_c.specs.Refusals.{buffer_refusal, window_of}
 use Rattle.pool_c.proofs.Allocated.{here_of}
 
@@ -63,7 +63,7 @@ pub may_accept : (c : Common) (a : Account) (p : Carried) (letter : PostedLetter
     → p.posted ≡ Some letter → accept_no a letter.letter ≡ None → accept_refusal c a p ≡ None
 may_accept c a p letter named posted may =
     past_one (p.pool == c.name) (letter_refusal a p.posted) (Some NotHere) (eq-eqb p.pool c.name named)
-    (ap (letter_refusal a) posted ∙ ap (option_map as_refusal) may)
+    (ap (letter_refusal a) posted ∙ ap (option_map of_accept) may)
 
 pub has_accepted : (p : Carried) (c : Common) (old new : Member) (letter : PostedLetter) (at : ViewData)
     → p.posted ≡ Some letter → letter.letter.parcel.view ≡ Some at → 0 < counted new.account.counts at.root

@@ -30,17 +30,17 @@ use Rattle.pool_c.specs.Refusals.{buffer_refusal, root_of, window_of}
 -- ---- Capacity.
 
 -- the refusal of an ask for capacity, as it is told here
-abbrev pub as_refusal : CapacityNo → Refusal
-as_refusal capacity.NotHere = no.NotHere
-as_refusal capacity.TooLarge = no.TooLarge
-as_refusal capacity.Spent = no.Spent
-as_refusal capacity.Full = no.Full
+abbrev pub of_capacity : CapacityNo → Refusal
+of_capacity capacity.NotHere = no.NotHere
+of_capacity capacity.TooLarge = no.TooLarge
+of_capacity capacity.Spent = no.Spent
+of_capacity capacity.Full = no.Full
 
 -- why a buffer is not asked for so many bytes, in the order of the tests
 abbrev pub capacity_refusal : Common → Account → PoolBuffer → ℕ → Option Refusal
 capacity_refusal c a b size =
     if b.pool == c.name
-    then option_map as_refusal
+    then option_map of_capacity
     (capacity_no (geometry_of c.shared.table.layout.shape) a (window_of b) size)
     else Some no.NotHere
 

@@ -83,9 +83,9 @@ AcceptsIf (Some why) was is c old new answer = (answer ≡ Err why) × (new ≡ 
 -- ---- The leaving of one.
 
 -- the parcel was left; or there was none to leave, and nothing changed
-abbrev pub LeavesIf : Option Refusal → PoolParcel → PoolParcel → ℤ → Type 0
-LeavesIf None old new code = (code ≡ ok) × HasNone new
-LeavesIf (Some why) old new code = (code ≡ code_of why) × (new ≡ old)
+abbrev pub LeavesParcelIf : Option Refusal → PoolParcel → PoolParcel → ℤ → Type 0
+LeavesParcelIf None old new code = (code ≡ ok) × HasNone new
+LeavesParcelIf (Some why) old new code = (code ≡ code_of why) × (new ≡ old)
 
-abbrev pub Leaves : PoolParcel → PoolParcel → ℤ → Type 0
-Leaves old new code = LeavesIf (handle_refusal old.state) old new code
+abbrev pub LeavesParcel : PoolParcel → PoolParcel → ℤ → Type 0
+LeavesParcel old new code = LeavesParcelIf (handle_refusal old.state) old new code

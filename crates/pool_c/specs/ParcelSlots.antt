@@ -9,6 +9,6 @@ use Rattle.pool_c.specs.declared.carried.Carried.{Carried}
 use Rattle.pool_c.specs.Slots.{heap}
 
 -- the box that the pointer stands for, if any
-abbrev pub slot_owns : Ptr → Option Carried → Fml
-slot_owns at None = ftrue
-slot_owns at (Some carried) = box_owns (ghosts.dealloc_token heap) the_row at carried
+abbrev pub parcel_slot_owns : Ptr → Option Carried → Fml
+parcel_slot_owns at None = ftrue
+parcel_slot_owns at (Some carried) = box_owns (ghosts.dealloc_token heap) the_row at carried

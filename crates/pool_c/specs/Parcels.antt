@@ -67,15 +67,15 @@ Parts b to c old new answer =
 -- ---- The accepting of one.
 
 -- the refusal of a parcel, as it is told here
-abbrev pub as_refusal : AcceptNo → Refusal
-as_refusal accept.NotHere = NotHere
-as_refusal accept.OutOfOrder = OutOfOrder
-as_refusal accept.Spent = Spent
+abbrev pub of_accept : AcceptNo → Refusal
+of_accept accept.NotHere = NotHere
+of_accept accept.OutOfOrder = OutOfOrder
+of_accept accept.Spent = Spent
 
 -- a letter, if there is one
 abbrev pub letter_refusal : Account → Option PostedLetter → Option Refusal
 letter_refusal a None = Some Empty
-letter_refusal a (Some p) = option_map as_refusal (accept_no a p.letter)
+letter_refusal a (Some p) = option_map of_accept (accept_no a p.letter)
 
 -- why a parcel is not accepted: its pool has another name, or the thread refuses its letter
 abbrev pub accept_refusal : Common → Account → Carried → Option Refusal

@@ -28,17 +28,17 @@ abbrev pub has_range : PoolBuffer → ℕ → ℕ → Bool
 has_range b start count = in_range (window_of b).at start count
 
 -- the refusal of a call on a buffer, as it is told here
-abbrev pub as_refusal : AccessNo → Refusal
-as_refusal access.NotHere = NotHere
-as_refusal access.Range = Range
-as_refusal access.Spent = Spent
+abbrev pub of_access : AccessNo → Refusal
+of_access access.NotHere = NotHere
+of_access access.Range = Range
+of_access access.Spent = Spent
 
 -- a call on a buffer that takes so many turns and moves: its pool has another name, or the thread
 -- refuses it, as it would a buffer of its own kind
 abbrev pub buffer_refusal : Common → Account → PoolBuffer → Bool → ℕ → ℕ → Option Refusal
 buffer_refusal c a b inside turns moves =
     if b.pool == c.name
-    then option_map as_refusal (part_no a (window_of b) inside turns moves)
+    then option_map of_access (part_no a (window_of b) inside turns moves)
     else Some NotHere
 
 -- an allocation of so many bytes

@@ -2,7 +2,7 @@
 
 ghost use Rattle.std.specs.Prelude.{◌≡◌, OnSome};
 ghost use Rattle.pool_c.specs.Handles.{Calls, handle_refusal};
-ghost use Rattle.pool_c.specs.ParcelHandles.{AcceptsIf, done, IsKnownBy, IsPut, Leaves, PartsIf, room_refusal};
+ghost use Rattle.pool_c.specs.ParcelHandles.{AcceptsIf, done, IsKnownBy, IsPut, LeavesParcel, PartsIf, room_refusal};
 
 use crate::buffer::PoolBuffer;
 use crate::codes::{Refusal, code, give};
@@ -68,7 +68,7 @@ pub extern "C" fn pool_accept(
 /// Leaves a parcel behind. Its handle is empty then, and its buffer stays counted.
 #[unsafe(no_mangle)]
 pub extern "C" fn pool_leave_parcel(alloc: Global, parcel: &mut PoolParcel) -> i32
-    ensures { Leaves parcel.old parcel.new result }
+    ensures { LeavesParcel parcel.old parcel.new result }
 {
     match parcel.take(alloc) {
         Ok(carried) => {

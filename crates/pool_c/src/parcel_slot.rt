@@ -18,9 +18,9 @@ pub struct ParcelSlot {
 impl Model for ParcelSlot {
     ghost use Rattle.std.specs.Prelude.{Option};
     ghost use Rattle.pool_c.specs.declared.carried.Carried.{Carried};
-    ghost use Rattle.pool_c.specs.ParcelSlots.{slot_owns};
+    ghost use Rattle.pool_c.specs.ParcelSlots.{parcel_slot_owns};
 
-    ghost also_owns = { λ s. slot_owns s.at s.held };
+    ghost also_owns = { λ s. parcel_slot_owns s.at s.held };
 }
 
 impl ParcelSlot {

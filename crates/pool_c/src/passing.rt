@@ -2,7 +2,7 @@
 
 ghost use Rattle.std.specs.Prelude.{◌≡◌, MatchResult};
 ghost use Rattle.pool_c.specs.Answers.{Answers};
-ghost use Rattle.pool_c.specs.Parcels.{Accepts, accept_refusal, arrived, as_refusal, HasParted, IsOf, LacksMemory, part_refusal, sent_view};
+ghost use Rattle.pool_c.specs.Parcels.{Accepts, accept_refusal, arrived, of_accept, HasParted, IsOf, LacksMemory, part_refusal, sent_view};
 ghost use Rattle.pool_c.specs.Refusals.{root_of};
 
 use crate::buffer::PoolBuffer;
@@ -109,7 +109,7 @@ impl PoolBuffer {
 
 // Why a parcel is not accepted.
 fn unaccepted(no: AcceptNo) -> Refusal
-    ensures { result ≡ as_refusal no }
+    ensures { result ≡ of_accept no }
 {
     match no {
         AcceptNo::NotHere => Refusal::NotHere,

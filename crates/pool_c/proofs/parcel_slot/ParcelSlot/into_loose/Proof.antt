@@ -26,7 +26,7 @@ use Rattle.std.specs.contracts.alloc.Global as heap
 use Rattle.std.specs.contracts.impls.GlobalAllocator.TheImpl.{ghosts}
 use Rattle.pool_c.proofs.ParcelSlotValues.{told}
 use Rattle.pool_c.proofs.Values.{both, al, loose_good, loose_in}
-use Rattle.pool_c.specs.ParcelSlots.{slot_owns}
+use Rattle.pool_c.specs.ParcelSlots.{parcel_slot_owns}
 use Rattle.pool_c.specs.contracts.carried.Carried as inner
 use Rattle.pool_c.specs.contracts.parcel_slot.ParcelSlot as slot
 use Rattle.pool_c.specs.contracts.parcel_slot.ParcelSlot.into_loose.{ended, clauses}
@@ -56,7 +56,7 @@ into_loose_spec 𝓤 𝓛 𝓜 𝓡 wired =
     got.0 in let asked = got.1 in
     split ! $ move ! (1 ∷ []) $ fsplit ! $ move ! (1 ∷ []) $ fsplit ! $ handle_tells (al R Z LZ ghosts) ! a z.0.4.1.0
     (λ h eh fits. move ! (2 ∷ []) $ fsplit ! $ drop ! $
-    rewrite ! 0 (λ (held : Option (inner.the_row).Denot). ‵ (slot_owns s.at held)) asked refl $
+    rewrite ! 0 (λ (held : Option (inner.the_row).Denot). ‵ (parcel_slot_owns s.at held)) asked refl $
     in_a_block ! s.at (λ p. box_owns (ghosts.dealloc_token a) R p x) (fst∗ 𝓤 (never 𝓤) (sem 𝓛 (ghosts.dealloc_token a
     (bare (lone R.mir)) null_ptr))) (λ b o e. let w : Val = both (vptr b o) h in
     let es : z.0.4.0 ≡ word (block_ptr b o) ∷ [] = told s.at z.0.4.0 are.0.0 ∙ ap (λ (p : Ptr). word p ∷ []) e in
