@@ -66,7 +66,7 @@ impl Uses {
     }
 
     // A root begins to live on a region at a place.
-    fn settle(&mut self, place: u32, living: Living, moment: u64) -> Result<(), AllocError> {
+    fn live_on(&mut self, place: u32, living: Living, moment: u64) -> Result<(), AllocError> {
         self.living.insert(place, living)?;
         self.change(living.region, Phase::Rooted(living.root), moment)
     }
@@ -85,7 +85,7 @@ impl Uses {
         match did {
             Did::Birth { root, region } => {
                 let (root, region) = (*root, *region);
-                self.settle(place, Living { root, region }, moment)
+                self.live_on(place, Living { root, region }, moment)
             }
             Did::Grow {
                 capacity: _,
@@ -93,7 +93,7 @@ impl Uses {
             } => match self.leave(place, moment)? {
                 Some(root) => {
                     let region = *region;
-                    self.settle(place, Living { root, region }, moment)
+                    self.live_on(place, Living { root, region }, moment)
                 }
                 None => Ok(()),
             },
