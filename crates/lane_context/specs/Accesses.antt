@@ -118,30 +118,30 @@ reads_get names reach len = do
 abbrev pub tries_or : Bool → LaneState → ViewData → Reader Answer → Reader Answer
 tries_or tries s v r = if tries then busy_or s v r else r
 
-abbrev pub reads : LaneState → Names → Access → Reader Answer
-reads s names (Refused refusal) = give (answer (reply_for refusal) s.names)
-reads s names (Set reach bytes) =
+abbrev pub reads_access : LaneState → Names → Access → Reader Answer
+reads_access s names (Refused refusal) = give (answer (reply_for refusal) s.names)
+reads_access s names (Set reach bytes) =
     tries_or reach.tries s reach.after.at (reads_set names reach bytes.items)
-reads s names (Get reach note reply) =
+reads_access s names (Get reach note reply) =
     tries_or reach.tries s reach.after.at (reads_get names reach (length note.items))
 
 -- an access has room for its bytes, and reaches them
-abbrev pub IsReady : (RootId → ℕ) → List Counted → Access → Type 0
-IsReady known cs (Refused refusal) = ⊤
-IsReady known cs (Set reach bytes) = Reaches known cs (length bytes.items) reach
-IsReady known cs (Get reach note reply) =
+abbrev pub AccessIsReady : (RootId → ℕ) → List Counted → Access → Type 0
+AccessIsReady known cs (Refused refusal) = ⊤
+AccessIsReady known cs (Set reach bytes) = Reaches known cs (length bytes.items) reach
+AccessIsReady known cs (Get reach note reply) =
     Reaches known cs (length note.items) reach × (length reply.items ≡ length note.items)
 
 -- a command is prepared: its access is what the law reads of it, and reaches what is known of its
 -- root where all names do
 pub record IsPrepared (names : List (Option Bound)) (cs : List Counted) (command : Command)
     (made : Access) (s : LaneState) : Type 0 where
-  pub ready : (known : RootId → ℕ) → AreInside known names → IsReady known cs made
+  pub ready : (known : RootId → ℕ) → AreInside known names → AccessIsReady known cs made
   pub noted : (composes : Bool) → 1 ≤ most_notes composes command
   pub bound : Names
   pub names_are : NamesAre bound (names_after names made)
   pub read : (shape : Shape) (lane : ℕ) (log : Log) →
-      answer_of shape lane s command log ≡ reads s bound made log
+      answer_of shape lane s command log ≡ reads_access s bound made log
 
 -- a command accesses bytes
 abbrev pub IsAccess : Command → Type 0

@@ -5,7 +5,7 @@ ghost use Rattle.pool_law.specs.LaneLaw.{sweep_period};
 ghost use Rattle.pool_law.specs.LaneStates.{LaneState};
 ghost use Rattle.pool_law.specs.declared.command.Command.{Command};
 ghost use Rattle.seat_work.specs.Hands.{empty_hand};
-ghost use Rattle.lane_context.specs.Accesses.{IsState, Reaches, IsReady, IsPrepared};
+ghost use Rattle.lane_context.specs.Accesses.{IsState, Reaches, AccessIsReady, IsPrepared};
 ghost use Rattle.lane_context.specs.declared.access.Access.TheVariants.{Set, Get};
 ghost use Rattle.lane_context.specs.ContextSteps.{CanAnswer, FindsBusy, MayTurn, Turns, AccessTurns};
 ghost use Rattle.lane_context.specs.declared.context.Turn.{Turn};
@@ -28,7 +28,7 @@ impl Context {
         requires context { IsContext pool.now empty_hand self.old }
         requires room { HasRoomFor pool.now self.old (notes_alone 1) }
         requires replies { length self.old.replies.items < vec_capacity self.old.replies }
-        requires ready { IsReady (known_to self.old.seat) self.old.counts access }
+        requires ready { AccessIsReady (known_to self.old.seat) self.old.counts access }
         requires asked { self.old.asked < sweep_period }
         requires name { AccessFits self.old access }
         ensures { (s : LaneState) (command : Command) → IsState s self.old.names self.old.counts →

@@ -3,7 +3,7 @@ use Rattle.shared_pool.specs.SeatLanes.{lane_of}
 use Rattle.lane_context.specs.declared.access.Access.{Access}
 use Rattle.lane_context.specs.declared.context.Stage.TheVariants.{Ready}
 use Rattle.lane_context.specs.declared.context.Turn.{Turn}
-use Rattle.lane_context.specs.Accesses.{IsReady, IsPrepared}
+use Rattle.lane_context.specs.Accesses.{AccessIsReady, IsPrepared}
 use Rattle.lane_stages.specs.Budgets.{notes_alone}
 use Rattle.lane_context.specs.Contexts.{AccessFits, HasTurned}
 use Rattle.lane_context.specs.Named.{known_to}
@@ -47,7 +47,7 @@ set-requires-clause-may c =
 pub set-requires-clause-reaches : goal.set-requires-clause-reaches
 set-requires-clause-reaches c =
     let old = c.args.self.now in
-    subst (λ (a : Access). IsReady (known_to old.seat) old.counts a) c.in-Set.is c.requires.ready
+    subst (λ (a : Access). AccessIsReady (known_to old.seat) old.counts a) c.in-Set.is c.requires.ready
 
 pub set-requires-clause-name : goal.set-requires-clause-name
 set-requires-clause-name c = subst (λ (a : Access). AccessFits c.args.self.now a) c.in-Set.is c.requires.name
@@ -70,12 +70,12 @@ get-requires-clause-may c =
 pub get-requires-clause-reaches : goal.get-requires-clause-reaches
 get-requires-clause-reaches c =
     let old = c.args.self.now in
-    (subst (λ (a : Access). IsReady (known_to old.seat) old.counts a) c.in-Get.is c.requires.ready).0
+    (subst (λ (a : Access). AccessIsReady (known_to old.seat) old.counts a) c.in-Get.is c.requires.ready).0
 
 pub get-requires-clause-reply : goal.get-requires-clause-reply
 get-requires-clause-reply c =
     let old = c.args.self.now in
-    (subst (λ (a : Access). IsReady (known_to old.seat) old.counts a) c.in-Get.is c.requires.ready).1
+    (subst (λ (a : Access). AccessIsReady (known_to old.seat) old.counts a) c.in-Get.is c.requires.ready).1
 
 pub get-requires-clause-name : goal.get-requires-clause-name
 get-requires-clause-name c = subst (λ (a : Access). AccessFits c.args.self.now a) c.in-Get.is c.requires.name
