@@ -8,7 +8,7 @@ use Rattle.pool_law.specs.declared.note.Did.{Did}
 use Rattle.pool_law.specs.Roots.{Present, laid_over, zeros_to, with_bytes, place_step, place_step_by}
 use Rattle.shared_pool.specs.RootPlaces.{RootState, PlaceState, law_root, law_place}
 use Rattle.shared_pool.specs.PlaceSteps.{used}
-use Rattle.shared_pool.specs.Regrowing.{room_in, room_did, zeroed, after_room, carried, moved}
+use Rattle.shared_pool.specs.Regrowing.{room_in, room_did, zeroed, after_room, carried_over, moved}
 use Rattle.shared_pool.specs.declared.went.Room.TheVariants.{Enough, Extended, Short}
 
 -- zeros behind the first of some bytes
@@ -45,7 +45,7 @@ zeroed-length xs a c low high =
 
 -- and so do the bytes of a root in another region
 pub carried-length : (asked : ℕ) (r : RootState) (bytes : List ℕ) → r.capacity ≤ length r.piece.bytes
-    → r.capacity ≤ asked → asked ≤ length bytes → length (carried asked r bytes) ≡ length bytes
+    → r.capacity ≤ asked → asked ≤ length bytes → length (carried_over asked r bytes) ≡ length bytes
 carried-length asked r bytes fits low long =
     let front : List ℕ = take r.capacity r.piece.bytes in
     let many : length front ≡ r.capacity = length-take-le r.capacity r.piece.bytes fits in

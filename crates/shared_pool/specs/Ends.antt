@@ -68,12 +68,12 @@ told_here (Some (Root s)) count = told_in s.value count
 told_here _ count = []
 
 -- at most four accesses are kept of the root that is present
-abbrev pub IsShort : PlaceState → Type 0
-IsShort s = IfSome s.present (λ r. length r.handle.tracker.kept ≤ 4)
+abbrev pub KeepsFew : PlaceState → Type 0
+KeepsFew s = IfSome s.present (λ r. length r.handle.tracker.kept ≤ 4)
 
 -- the value is a root place
 abbrev pub IsPlaceHere : Option Home → Type 0
-IsPlaceHere (Some (Root s)) = IsShort s.value
+IsPlaceHere (Some (Root s)) = KeepsFew s.value
 IsPlaceHere _ = ⊥
 
 -- where the first root place stands among the home values

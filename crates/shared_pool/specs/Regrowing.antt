@@ -103,15 +103,15 @@ after_room asked r Extended = extended asked r
 after_room asked r (Short capacity) = r
 
 -- a region's bytes with the first of the root's laid over, and zeros behind them up to a capacity
-abbrev pub carried : ℕ → RootState → List ℕ → List ℕ
-carried asked r bytes = zeroed r.capacity asked (laid_over bytes 0 (take r.capacity r.piece.bytes))
+abbrev pub carried_over : ℕ → RootState → List ℕ → List ℕ
+carried_over asked r bytes = zeroed r.capacity asked (laid_over bytes 0 (take r.capacity r.piece.bytes))
 
 -- the root with so much capacity in another region
 abbrev pub moved : ℕ → RootState → Region → RootState
 moved asked r into =
     record r {
       region = used into.id;
-      piece = with_bytes into.piece (carried asked r into.piece.bytes);
+      piece = with_bytes into.piece (carried_over asked r into.piece.bytes);
       capacity = asked;
     }
 

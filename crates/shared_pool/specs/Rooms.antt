@@ -11,7 +11,7 @@ pub record IsSpare (v : Vec Access) : Type 0 where
   pub room : 4 ≤ vec_capacity v
 
 -- the memory for what the close of a pool of this shape tells
-pub record IsRoomFor (room : Spares) (shape : Shape) : Type 0 where
+pub record AreSparesFor (room : Spares) (shape : Shape) : Type 0 where
   pub chunks : (room.chunks.items ≡ []) × (shape.arenas * shape.chunks ≤ vec_capacity room.chunks)
   pub live : (room.live.items ≡ []) × (shape.lanes * shape.handles ≤ vec_capacity room.live)
   pub records : All IsSpare room.records.items

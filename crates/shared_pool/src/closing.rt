@@ -8,7 +8,7 @@ ghost use Rattle.pool_table.specs.Seats.{view_of, IsSeatOf, IsOutside};
 ghost use Rattle.shared_pool.specs.Closing.{AreWhole, logs_in};
 ghost use Rattle.shared_pool.specs.Joining.{AreApart, IsSettled, HaveFetches, AreFetchesOf, IsFetchesOf};
 ghost use Rattle.shared_pool.specs.Live.{AreLiveRoots};
-ghost use Rattle.shared_pool.specs.Rooms.{IsRoomFor};
+ghost use Rattle.shared_pool.specs.Rooms.{AreSparesFor};
 ghost use Rattle.shared_pool.specs.Seated.{AreDone, WereDone, parts_in};
 ghost use Rattle.shared_pool.specs.Seats.{IsPoolSeat};
 
@@ -81,7 +81,7 @@ impl SharedPool {
     // Closes the pool, with the memory for what it tells.
     fn close_in(self, room: Spares, seats: Vec<PoolSeat>) -> PoolEnd
         requires seats { WereDone self seats.items }
-        requires room { IsRoomFor room self.layout.shape }
+        requires room { AreSparesFor room self.layout.shape }
         ensures whole { AreWhole self.table.layout.shape (parts_in seats.items) }
         ensures chunks { let shape = self.table.layout.shape in
             result.chunks ≡ ends_from shape (logs_in (parts_in seats.items)) (below shape.arenas) }

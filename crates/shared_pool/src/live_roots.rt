@@ -5,7 +5,7 @@ ghost use Rattle.size_classes.specs.Sizes.{below};
 ghost use Rattle.pool_law.specs.Arenas.{listed};
 ghost use Rattle.pool_law.specs.Homes.{objects_of};
 ghost use Rattle.pool_law.specs.Limits.{IsShape};
-ghost use Rattle.shared_pool.specs.Ends.{IsPlaceHere, ArePlaces, told_in, told_here, told_from, first_place, count_in, IsShort, told_of};
+ghost use Rattle.shared_pool.specs.Ends.{IsPlaceHere, ArePlaces, told_in, told_here, told_from, first_place, count_in, KeepsFew, told_of};
 ghost use Rattle.shared_pool.specs.PlaceViews.{root_seen};
 ghost use Rattle.shared_pool.specs.Rooms.{IsSpare};
 
@@ -82,7 +82,7 @@ fn told_at(home: &mut Option<Home>, count: u32, records: Vec<Access>) -> Option<
 impl RootPlace {
     // What is told of the root, if one is present and watched.
     fn told(&mut self, count: u32, records: Vec<Access>) -> Option<LiveRoot>
-        requires few { IsShort self.old }
+        requires few { KeepsFew self.old }
         requires records { IsSpare records }
         ensures same { self.new ≡ self.old }
         ensures told { listed result (λ x. x) ≡ told_in self.old count }

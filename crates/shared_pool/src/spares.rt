@@ -3,7 +3,7 @@
 ghost use Rattle.std.specs.Prelude.{◌≡◌, ◌*◌, ◌<◌, ◌≤◌, [], ◌++◌, length, All, IfOk, vec_capacity};
 ghost use Rattle.pool_law.specs.Arenas.{listed};
 ghost use Rattle.pool_law.specs.Limits.{IsShape};
-ghost use Rattle.shared_pool.specs.Rooms.{IsSpare, IsRoomFor};
+ghost use Rattle.shared_pool.specs.Rooms.{IsSpare, AreSparesFor};
 
 use leak_records::LiveRoot;
 use pool_law::{Access, ChunkEnd, Shape};
@@ -25,7 +25,7 @@ impl Spares {
     /// Takes it.
     pub(crate) fn reserve(alloc: Global, shape: &Shape) -> Result<Spares, AllocError>
         requires { IsShape shape.now }
-        ensures { IfOk result (λ room. IsRoomFor room shape.now) }
+        ensures { IfOk result (λ room. AreSparesFor room shape.now) }
     {
         let places = shape.lanes * shape.handles;
         let chunks = Vec::with_capacity(alloc, (shape.arenas * shape.chunks) as usize)?;
