@@ -1,6 +1,7 @@
 -- The seats of a board from call to call.
-use Rattle.std.proofs.Common.{◌≡◌, ℕ, ◌+◌, ◌-◌, ◌<◌, ◌≤◌, List, sym, ap, ◌∙◌, subst, arith}
-use Rattle.std.specs.Prelude.{Option, Result, Ok, Err, IfOk, IfErr, ◌⊎◌}
+use Rattle.std.proofs.Common.{◌≡◌, ℕ, ◌+◌, ◌-◌, ◌<◌, ◌≤◌, sym, ap, ◌∙◌, subst, arith}
+use Rattle.std.specs.Prelude.{Option, IfSome, ◌⊎◌}
+use Rattle.std.proofs.Common.{inl, inr}
 use Rattle.atomic_table.specs.Table.{Me}
 use Rattle.shared_pool.specs.declared.pool.SharedPool.{SharedPool}
 use Rattle.board_table.specs.declared.views.BoardView.{BoardView}
@@ -10,11 +11,9 @@ use Rattle.board_table.specs.Seats.{Counts, HasMark}
 use Rattle.board_table.specs.Views.{retained, hand_left, handed, joined, done, took, spent}
 use Rattle.shared_composite.specs.declared.board.Board.{Board}
 use Rattle.shared_composite.specs.declared.board.BoardSeat.{BoardSeat}
-use Rattle.shared_composite.specs.declared.busy.Busy.{Busy}
-use Rattle.shared_composite.specs.declared.busy.Busy.TheVariants as busy
 use Rattle.shared_composite.specs.declared.cores.Core.{Core}
 use Rattle.shared_composite.specs.declared.home.Home.{Home}
-use Rattle.shared_composite.specs.Boards.{IsSeatOf, IsPoolOf, IsAtHome, IsReleasedOn, HasReadOn, IsBusyAs, HasView, origin_of, view_of}
+use Rattle.shared_composite.specs.Boards.{IsSeatOf, IsPoolOf, IsAtHome, IsReleasedOn, HasView, origin_of, view_of}
 use Rattle.shared_composite.specs.Cores.{IsUnderway}
 use Rattle.shared_composite.proofs.BoardCalls.{of_pool}
 use Rattle.shared_composite.proofs.CoreLaws.{underway}
@@ -128,26 +127,6 @@ module _ (board : Board) (s n : BoardSeat) (can : Can board 0 1 s) (own : IsSeat
         it.spent_is,
       )
 
-  pub same_stays : HasView n (view_of s) → Stays board 0 1 s n × (used n ≡ used s)
-  same_stays view =
-      let e = knows n (view_of s) view in (
-        record {
-          own = own;
-          counts = subst (Counts 0) (sym e) can.counts;
-          moves_left = (let a = ap (λ (v : BoardView). v.moves) e in omega (arith, a));
-          turns_left = (let a = ap (λ (v : BoardView). v.turns) e in omega (arith, a));
-        },
-        ap (λ (v : BoardView). spent v) e,
-      )
-
-  -- whatever the read answers
-  pub read_stays : (pool : SharedPool) (i : ℕ) (unfilled filled : List ℕ) (r : Result ℕ Busy)
-      → IfOk r (λ number. HasReadOn board pool s n 0 i number filled)
-      → IfErr r (λ why. IsBusyAs why board pool s n 0 i unfilled filled) → Stays board 0 1 s n × (used n ≡ used s)
-  read_stays pool i unfilled filled (Ok number) read found = section_stays read.section.view
-  read_stays pool i unfilled filled (Err (busy.Board composite number)) read found = same_stays found.unchanged
-  read_stays pool i unfilled filled (Err (busy.Pool held)) read found = section_stays found.section.view
-
 -- ---- A composite is let go.
 
 module _ (board : Board) (s n : BoardSeat) (can : Can board 0 1 s) where
@@ -181,3 +160,8 @@ module _ (board : Board) (s n : BoardSeat) (can : Can board 0 1 s) where
 pub home_core : (board : Board) (pool : SharedPool) (k : ℕ) (core : Core) → IsPoolOf board pool → IsAtHome board k core
     → IsUnderway pool core
 home_core board pool k core is at = underway pool core (of_pool (origin_of board) pool k core is at)
+
+-- what two may have, one has
+pub either : (P : Core → Type 0) (r a b : Option Core) → (r ≡ a) ⊎ (r ≡ b) → IfSome a P → IfSome b P → IfSome r P
+either P r a b (inl e) x y = subst (λ (o : Option Core). IfSome o P) (sym e) x
+either P r a b (inr e) x y = subst (λ (o : Option Core). IfSome o P) (sym e) y

@@ -13,7 +13,6 @@ use Rattle.pool_table.specs.declared.views.SeatView.{SeatView}
 use Rattle.shared_pool.specs.declared.pool.SharedPool.{SharedPool}
 use Rattle.shared_pool.specs.declared.seat.PoolSeat.{PoolSeat}
 use Rattle.shared_pool.specs.SeatViews.{view_of}
-use Rattle.shared_pool.specs.Seats.{IsPoolSeat}
 use Rattle.shared_pool.specs.Seated.{AreDone, IsDone}
 use Rattle.shared_pool.specs.Opening.{IsOpened}
 use Rattle.pool_table.specs.declared.views.Layout.{Layout}
@@ -85,18 +84,7 @@ first_text : (pool : SharedPool) (cores : List Core) → 0 < length cores → Al
 first_text pool [] some all = absurd (omega (arith, some))
 first_text pool (c ∷ cs) some all = (c, refl, all 0 c (omega arith))
 
--- a list that was filled with one core
-pub one_text : (pool : SharedPool) (none one : List Core) (a : Core) → none ≡ [] → one ≡ none ++ a ∷ []
-    → IsText pool a → (0 < length one) × (length one ≤ 16) × All (IsText pool) one
-one_text pool none one a empty filled text =
-    let e : one ≡ a ∷ [] = filled ∙ ap (λ (cs : List Core). cs ++ a ∷ []) empty in
-    let n : length one ≡ 1 = ap (λ (cs : List Core). length cs) e in (
-      omega (arith, n),
-      omega (arith, n),
-      subst (All (IsText pool)) (sym e) (All-cons (IsText pool) a [] text (All-nil (IsText pool))),
-    )
-
--- and with one more
+-- a list that was filled with two cores
 pub two_texts : (pool : SharedPool) (none one two : List Core) (a b : Core) → none ≡ [] → one ≡ none ++ a ∷ []
     → two ≡ one ++ b ∷ [] → IsText pool a → IsText pool b
     → (0 < length two) × (length two ≤ 16) × All (IsText pool) two
@@ -184,12 +172,3 @@ opened_emptied pool l lane s opened =
         subst (CountsJust [])
         (λ i. record v { own = record { number = v.own.number; notes = sym own i }; others = sym alone i })
         (λ root. omega arith)
-
--- two seats of a pool that is abandoned
-pub two_seats : (pool : SharedPool) (none one two : List PoolSeat) (a b : PoolSeat) → none ≡ [] → one ≡ none ++ a ∷ []
-    → two ≡ one ++ b ∷ [] → IsPoolSeat pool a → IsPoolSeat pool b → All (IsPoolSeat pool) two
-two_seats pool none one two a b empty first second x y =
-    let e : two ≡ a ∷ b ∷ [] = second ∙ ap (λ (ss : List PoolSeat). ss ++ b ∷ [])
-    (first ∙ ap (λ (ss : List PoolSeat). ss ++ a ∷ []) empty) in
-    subst (All (IsPoolSeat pool)) (sym e)
-    (All-cons (IsPoolSeat pool) a (b ∷ []) x (All-cons (IsPoolSeat pool) b [] y (All-nil (IsPoolSeat pool))))

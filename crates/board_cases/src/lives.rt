@@ -1,4 +1,4 @@
-//! A board's whole life on one thread.
+//! A board's whole life: on one thread, then on two, and on one again.
 
 ghost use Rattle.std.specs.Prelude.{◌≡◌, ◌<◌, ◌≤◌, [], All, length, vec_capacity};
 ghost use Rattle.pool_law.specs.Limits.{geometry_of};
@@ -9,7 +9,8 @@ ghost use Rattle.board_cases.specs.Seats.{Can, Stays, used};
 ghost use Rattle.board_cases.specs.Texts.{IsText, Shows};
 
 use crate::cores::{Opened, close, core, open, open_board, stepped_out};
-use crate::seats::{hand_on, let_go, take_back};
+use crate::races::{READS, join_one, race};
+use crate::seats::hand_on;
 use shared_composite::{Board, BoardSeat, Core};
 use shared_pool::{PoolSeat, SharedPool};
 use size_classes::SizeClasses;
@@ -17,6 +18,12 @@ use std::alloc::Global;
 use std::process::Abort;
 use std::sync::Wait;
 use std::test::Fail;
+
+// A move for the seat that is handed on, and one for each count that a thread passes on.
+const MOVES: u32 = 1 + READS;
+
+// The turns of each of two threads: for its first read, for those of the race, and for the core.
+const TURNS: u64 = 130;
 
 // A core of each of these seats.
 fn both_cores<R: Abort + Wait>(
@@ -44,7 +51,13 @@ fn both_cores<R: Abort + Wait>(
 
 // Reads from the middle of the composite's first part into its third one, in the section of this
 // number.
-fn read_middle<R: Abort>(rt: &R, board: &Board, pool: &SharedPool, seat: &mut BoardSeat, want: u64)
+pub(crate) fn read_middle<R: Abort>(
+    rt: &R,
+    board: &Board,
+    pool: &SharedPool,
+    seat: &mut BoardSeat,
+    want: u64,
+)
     requires shows { Shows pool.now board.now }
     requires can { Can board.now 0 1 seat.old }
     ensures stays { Stays board.now 0 1 seat.old seat.new }
@@ -58,7 +71,7 @@ fn read_middle<R: Abort>(rt: &R, board: &Board, pool: &SharedPool, seat: &mut Bo
 }
 
 #[test]
-fn a_board_lives_on_one_thread(rt: HostRuntime) -> Result<(), Fail> {
+fn a_board_lives_until_one_of_two_threads_ends_it(rt: HostRuntime) -> Result<(), Fail> {
     let alloc = rt.alloc();
     let Opened {
         pool,
@@ -69,14 +82,14 @@ fn a_board_lives_on_one_thread(rt: HostRuntime) -> Result<(), Fail> {
         sizes,
     } = open(alloc)?;
     let cores = both_cores(&rt, alloc, &pool, &sizes, first, second, cores);
-    let (board, mut seat) = open_board(&rt, &pool, alloc, 1, 3, cores);
-    let mut other = hand_on(&board, &mut seat, 1);
+    let (board, mut seat) = open_board(&rt, &pool, alloc, MOVES, 2 * TURNS, cores);
+    let mut other = hand_on(&board, &mut seat, TURNS);
     read_middle(&rt, &board, &pool, &mut other, 1);
-    take_back(&rt, &board, &mut seat, other);
     read_middle(&rt, &board, &pool, &mut seat, 2);
-    let Some(ended) = let_go(&board, &pool, &mut seat) else {
-        panic!(rt; "no count is left")
+    let Some(ended) = race(&rt, &board, &pool, &mut other, &mut seat) else {
+        panic!(rt; "it ended")
     };
+    join_one(&board, &mut seat, other);
     let mut cores = board.close(seat);
     let Some(left) = cores.pop() else {
         panic!(rt; "one core was not taken")

@@ -5,14 +5,14 @@ use Rattle.board_cases.proofs.races.reads.Goals as goal
 pub read_once-number-requires-clause-can : goal.read_once-number-requires-clause-can
 read_once-number-requires-clause-can g c =
     let at = c.loop-round in
-    can_less c.args.board.now 0 (65 - at.round-counter) 0 1 at.seat at.invariant.can (omega arith) (omega arith)
+    can_less c.args.board.now 0 (129 - at._round) 0 1 at.seat at.invariant.can (omega arith) (omega arith)
 
 pub loop-round-preserved : goal.loop-round-preserved
 loop-round-preserved g c =
     let at = c.loop-round in let read = c.read_once-number in
     record {
       can =
-          can_after c.args.board.now 0 (65 - at.round-counter) 0 1 0 (65 - (at.round-counter + 1)) at.seat read.new.seat
+          can_after c.args.board.now 0 (129 - at._round) 0 1 0 (129 - (at._round + 1)) at.seat read.new.seat
           at.invariant.can read.ensures.stays (omega arith) (omega arith);
       within = omega arith;
       all = read.ensures.used ∙ at.invariant.all;
@@ -21,7 +21,7 @@ loop-round-preserved g c =
 pub let_go-requires-clause-can : goal.let_go-requires-clause-can
 let_go-requires-clause-can g c =
     let at = c.loop-round in
-    can_less c.args.board.now 0 (65 - at.round-counter) 0 1 at.seat at.invariant.can (omega arith) (omega arith)
+    can_less c.args.board.now 0 (129 - at._round) 0 1 at.seat at.invariant.can (omega arith) (omega arith)
 
 pub returns-clause-goes : goal.returns-clause-goes
 returns-clause-goes g c =

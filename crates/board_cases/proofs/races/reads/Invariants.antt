@@ -4,7 +4,7 @@ use Rattle.board_cases.proofs.races.reads.Given as goal
 
 abbrev pub invariant-loop-round : goal.invariant-loop-round
 invariant-loop-round g l = record {
-  can : Can l.board 0 (65 - l.round-counter) l.seat;
-  within : l.round-counter ≤ 64;
+  can : Can l.board 0 (129 - l._round) l.seat;
+  within : l._round ≤ 128;
   all : used l.seat ≡ used l.initial.seat;
 }
