@@ -1,7 +1,7 @@
 //! What buffers answer that are asked for more bytes, and how long they are then.
 
-use crate::rounds::{SHAPE, accepted, buffer, ends, parcel};
-use buffer_pool::{Buffer, CapacityNo, Config, Pool, PoolName, PoolThread, Serve, open};
+use crate::rounds::{accepted, buffer, ends, parcel};
+use buffer_pool::{Buffer, CapacityNo, Pool, PoolName, PoolThread};
 use std::process::Abort;
 use std::sync::Wait;
 
@@ -30,9 +30,13 @@ fn asked<B: PoolName, R: Abort + Wait>(
         assert!(rt; me.capacity(rt, pool, all, size) == answer);
     }
     let mut out = [9u8; 3];
-    assert!(rt; all.len() == 112 && me.get(rt, pool, &*all, 14, &mut out) == Ok(()));
-    assert!(rt; out == [0, 255, 0]);
-    assert!(rt; me.get(rt, pool, &*all, 109, &mut out) == Ok(()) && out == [0, 0, 0]);
+    assert!(rt;
+        all.len() == 112
+            && me.get(rt, pool, &*all, 14, &mut out) == Ok(())
+            && out == [0, 255, 0]
+            && me.get(rt, pool, &*all, 109, &mut out) == Ok(())
+            && out == [0, 0, 0]
+    );
 }
 
 // A slice that was there before stays, until it reaches as far by its own. The other thread knows of the
@@ -42,13 +46,17 @@ fn reached<B: PoolName, R: Abort + Wait>(
     pool: &Pool<B>,
     first: &mut PoolThread<B>,
     second: &mut PoolThread<B>,
-    part: Buffer<B>,
+    mut part: Buffer<B>,
 ) {
-    let mut part = part;
-    assert!(rt; part.len() == 4 && part.ends() == (0, 4));
-    assert!(rt; second.capacity(rt, pool, &mut part, 10) == Err(CapacityNo::NotHere));
-    assert!(rt; first.capacity(rt, pool, &mut part, 10) == Ok(112));
-    assert!(rt; part.len() == 104 && part.ends() == (0, 4) && part.offset() == 8);
+    assert!(rt;
+        part.len() == 4
+            && part.ends() == (0, 4)
+            && second.capacity(rt, pool, &mut part, 10) == Err(CapacityNo::NotHere)
+            && first.capacity(rt, pool, &mut part, 10) == Ok(112)
+            && part.len() == 104
+            && part.ends() == (0, 4)
+            && part.offset() == 8
+    );
     let sent = parcel(rt, pool, first, part);
     let part = accepted(rt, pool, second, sent);
     let mut out = [9u8; 2];
@@ -56,69 +64,16 @@ fn reached<B: PoolName, R: Abort + Wait>(
     ends(rt, pool, second, part, false);
 }
 
-// What a pool does in the test.
-#[derive(Drop)]
-struct Grows<'a, R: Abort + Wait> {
-    rt: &'a R,
-}
-
-impl<'a, R: Abort + Wait> Serve for Grows<'a, R> {
-    type Out = ();
-
-    fn serve<B: PoolName + Send + Sync>(self, pool: Pool<B>, mut threads: Vec<PoolThread<B>>) {
-        let Grows { rt } = self;
-        let Some(mut second) = threads.pop() else {
-            panic!(rt; "there are two threads")
-        };
-        let Some(mut first) = threads.pop() else {
-            panic!(rt; "there are two threads")
-        };
-        let mut all = buffer(rt, first.alloc(rt, &pool, 16));
-        let part = buffer(rt, first.slice(&pool, &all, 8, 4));
-        asked(rt, &pool, &mut first, &mut all);
-        reached(rt, &pool, &mut first, &mut second, part);
-        ends(rt, &pool, &mut first, all, true);
-        threads.push_reserved(first);
-        threads.push_reserved(second);
-        pool.abandon(threads);
-    }
-}
-
-#[test]
-fn buffers_reach_further(rt: HostRuntime) {
-    let config = Config::of(SHAPE);
-    assert!(rt; open(rt.alloc(), &config, Grows { rt: &rt }).is_ok());
-}
-
-// What a thread may do that has the turns of one allocation and no more.
-#[derive(Drop)]
-struct Spends<'a, R: Abort + Wait> {
-    rt: &'a R,
-}
-
-impl<'a, R: Abort + Wait> Serve for Spends<'a, R> {
-    type Out = ();
-
-    fn serve<B: PoolName + Send + Sync>(self, pool: Pool<B>, mut threads: Vec<PoolThread<B>>) {
-        let Spends { rt } = self;
-        let Some(mut me) = threads.pop() else {
-            panic!(rt; "there is a thread")
-        };
-        let mut only = buffer(rt, me.alloc(rt, &pool, 8));
-        assert!(rt; me.capacity(rt, &pool, &mut only, 9) == Err(CapacityNo::Spent));
-        assert!(rt; only.len() == 8);
-        only.leave();
-        threads.push_reserved(me);
-        pool.abandon(threads);
-    }
-}
-
-#[test]
-fn no_buffer_reaches_further_without_turns(rt: HostRuntime) {
-    let config = Config {
-        shape: SHAPE,
-        moves: 0,
-        turns: 11,
-    };
-    assert!(rt; open(rt.alloc(), &config, Spends { rt: &rt }).is_ok());
+// A buffer of 16 bytes and a slice of it.
+pub(crate) fn grows<B: PoolName, R: Abort + Wait>(
+    rt: &R,
+    pool: &Pool<B>,
+    first: &mut PoolThread<B>,
+    second: &mut PoolThread<B>,
+) {
+    let mut all = buffer(rt, first.alloc(rt, pool, 16));
+    let part = buffer(rt, first.slice(pool, &all, 8, 4));
+    asked(rt, pool, first, &mut all);
+    reached(rt, pool, first, second, part);
+    ends(rt, pool, first, all, true);
 }

@@ -13,4 +13,6 @@ mod measures;
 #[cfg(test)]
 mod rounds;
 #[cfg(test)]
+mod spends;
+#[cfg(test)]
 mod tries;

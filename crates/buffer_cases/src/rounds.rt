@@ -1,9 +1,11 @@
 //! What calls on buffers answer, one after another, on the two threads of a pool.
 
+use crate::grows::grows;
 use crate::lones::owns;
+use crate::tries::tries;
 use buffer_pool::{
-    AcceptNo, AccessNo, AllocNo, Back, Buffer, CloseNo, Config, Level, NotAccepted, NotClosed,
-    Parcel, PartNo, Pool, PoolName, PoolThread, Serve, Shape, Unsent, open,
+    AcceptNo, AccessNo, AllocNo, Buffer, CloseNo, Config, Level, NotAccepted, NotClosed, Parcel,
+    PartNo, Pool, PoolName, PoolThread, Serve, Shape, Unsent, open,
 };
 use std::alloc::Global;
 use std::process::Abort;
@@ -21,10 +23,20 @@ pub(crate) const SHAPE: Shape = Shape {
     interval: 1,
 };
 
-const CHUNK: u32 = 65_536;
+pub(crate) const CHUNK: u32 = 65_536;
+
+// The first of the bytes that are shown.
+pub(crate) fn first_of(bytes: &[u8]) -> Option<u8> {
+    bytes.first().copied()
+}
+
+// Turns the bytes that are lent.
+pub(crate) fn turn(bytes: &mut [u8]) {
+    bytes.reverse();
+}
 
 // Why a buffer was not had. One that was is left.
-fn refused<B: PoolName, E: Drop>(answer: Result<Buffer<B>, E>) -> Option<E> {
+pub(crate) fn refused<B: PoolName, E: Drop>(answer: Result<Buffer<B>, E>) -> Option<E> {
     match answer {
         Ok(buffer) => {
             buffer.leave();
@@ -52,18 +64,25 @@ fn accesses<B: PoolName, R: Abort + Wait>(
 ) -> Buffer<B> {
     assert!(rt; refused(me.alloc(rt, pool, CHUNK + 1)) == Some(AllocNo::TooLarge));
     let mut all = buffer(rt, me.alloc(rt, pool, CHUNK));
-    assert!(rt; all.len() == CHUNK && all.offset() == 0 && all.thread() == 0);
-    assert!(rt; refused(me.alloc(rt, pool, CHUNK)) == Some(AllocNo::Full));
-    assert!(rt; me.set(rt, pool, &all, CHUNK - 2, &[1, 2]) == Ok(()));
-    assert!(rt; me.set(rt, pool, &all, CHUNK - 1, &[3, 4]) == Err(AccessNo::Range));
+    assert!(rt;
+        all.len() == CHUNK
+            && all.offset() == 0
+            && all.thread() == 0
+            && refused(me.alloc(rt, pool, CHUNK)) == Some(AllocNo::Full)
+            && me.set(rt, pool, &all, CHUNK - 2, &[1, 2]) == Ok(())
+            && me.set(rt, pool, &all, CHUNK - 1, &[3, 4]) == Err(AccessNo::Range)
+    );
     let mut out = [9u8; 3];
-    assert!(rt; me.get(rt, pool, &all, CHUNK - 3, &mut out) == Ok(()));
-    assert!(rt; out == [0, 1, 2]);
-    assert!(rt; me.write(rt, pool, &mut all, &[5, 6, 7, 8]) == Ok(()));
-    assert!(rt; me.read(rt, pool, &mut all, &mut out) == Ok(()));
-    assert!(rt; out == [5, 6, 7]);
-    assert!(rt; me.read(rt, pool, &mut all, &mut out) == Err(AccessNo::Range));
-    assert!(rt; all.ends() == (3, 4) && out == [5, 6, 7]);
+    assert!(rt;
+        me.get(rt, pool, &all, CHUNK - 3, &mut out) == Ok(())
+            && out == [0, 1, 2]
+            && me.write(rt, pool, &mut all, &[5, 6, 7, 8]) == Ok(())
+            && me.read(rt, pool, &mut all, &mut out) == Ok(())
+            && out == [5, 6, 7]
+            && me.read(rt, pool, &mut all, &mut out) == Err(AccessNo::Range)
+            && all.ends() == (3, 4)
+            && out == [5, 6, 7]
+    );
     all
 }
 
@@ -75,25 +94,38 @@ fn slices<B: PoolName, R: Abort + Wait>(
     all: &Buffer<B>,
 ) -> Buffer<B> {
     let part = buffer(rt, me.slice(pool, all, 1, 3));
-    assert!(rt; part.len() == 3 && part.offset() == 1 && part.ends() == (0, 3));
-    assert!(rt; refused(me.slice(pool, &part, 2, 2)) == Some(AccessNo::Range));
+    assert!(rt;
+        part.len() == 3
+            && part.offset() == 1
+            && part.ends() == (0, 3)
+            && refused(me.slice(pool, &part, 2, 2)) == Some(AccessNo::Range)
+    );
     let last = buffer(rt, me.slice(pool, &part, 2, 1));
     assert!(rt; last.offset() == 3 && me.refcnt(pool, all) == Ok(3));
-    let byte = me.with_bytes(rt, pool, &last, 0, 1, |bytes: &[u8]| bytes.first().copied());
-    assert!(rt; byte == Ok(Some(8)));
-    let turned = me.with_bytes_mut(rt, pool, &part, 0, 3, |bytes: &mut [u8]| bytes.reverse());
-    assert!(rt; turned == Ok(()));
+    let byte = me.with_bytes(rt, pool, &last, 0, 1, first_of);
+    let turned = me.with_bytes_mut(rt, pool, &part, 0, 3, turn);
+    assert!(rt; byte == Ok(Some(8)) && turned == Ok(()));
     ends(rt, pool, me, last, false);
     part
 }
 
-// The parcel of a buffer for the second thread.
+// The parcel of a buffer for the second thread. None is made for a thread that is not there.
 pub(crate) fn parcel<B: PoolName, R: Abort>(
     rt: &R,
     pool: &Pool<B>,
     me: &mut PoolThread<B>,
     buffer: Buffer<B>,
 ) -> Parcel<B> {
+    let buffer = match me.part(pool, buffer, 2) {
+        Ok(parcel) => {
+            parcel.leave();
+            panic!(rt; "there is no thread 2")
+        }
+        Err(Unsent { why, buffer }) => {
+            assert!(rt; why == PartNo::NoThread);
+            buffer
+        }
+    };
     match me.part(pool, buffer, 1) {
         Ok(parcel) => parcel,
         Err(back) => {
@@ -139,25 +171,6 @@ fn comes_back<B: PoolName, R: Abort>(
     }
 }
 
-// No parcel is made for a thread that is not there.
-fn stays<B: PoolName, R: Abort>(
-    rt: &R,
-    pool: &Pool<B>,
-    me: &mut PoolThread<B>,
-    buffer: Buffer<B>,
-) -> Buffer<B> {
-    match me.part(pool, buffer, 2) {
-        Ok(parcel) => {
-            parcel.leave();
-            panic!(rt; "there is no thread 2")
-        }
-        Err(Unsent { why, buffer }) => {
-            assert!(rt; why == PartNo::NoThread);
-            buffer
-        }
-    }
-}
-
 // Two buffers go from the first to the second: by number, to no other, and in order.
 fn hand_over<B: PoolName, R: Abort + Wait>(
     rt: &R,
@@ -169,7 +182,6 @@ fn hand_over<B: PoolName, R: Abort + Wait>(
 ) {
     let mut out = [0u8];
     assert!(rt; second.get(rt, pool, &all, 0, &mut out) == Err(AccessNo::NotHere));
-    let all = stays(rt, pool, first, all);
     let one = parcel(rt, pool, first, all);
     let two = parcel(rt, pool, first, part);
     assert!(rt; one.from() == 0 && one.to() == 1 && one.number() == 1 && two.number() == 2);
@@ -177,8 +189,13 @@ fn hand_over<B: PoolName, R: Abort + Wait>(
     let two = comes_back(rt, pool, second, two, AcceptNo::OutOfOrder);
     let all = accepted(rt, pool, second, one);
     let part = accepted(rt, pool, second, two);
-    assert!(rt; all.thread() == 1 && all.ends() == (3, 4) && part.offset() == 1);
-    assert!(rt; second.get(rt, pool, &part, 2, &mut out) == Ok(()) && out == [6]);
+    assert!(rt;
+        all.thread() == 1
+            && all.ends() == (3, 4)
+            && part.offset() == 1
+            && second.get(rt, pool, &part, 2, &mut out) == Ok(())
+            && out == [6]
+    );
     ends(rt, pool, second, all, false);
     ends(rt, pool, second, part, true);
 }
@@ -200,24 +217,29 @@ pub(crate) fn ends<B: PoolName, R: Abort + Wait>(
     }
 }
 
-// Closes a pool whose threads come last first: they come back, and then are in order.
+// Closes a pool whose threads come last first: they come back, and then are in order. So many roots
+// are live.
 fn closes<B: PoolName, R: Abort>(
     rt: &R,
     alloc: Global,
     pool: Pool<B>,
     threads: Vec<PoolThread<B>>,
+    live: u32,
 ) {
-    let (pool, mut threads) = match pool.close(alloc, threads) {
-        Ok(_closed) => panic!(rt; "the threads are out of order"),
-        Err(NotClosed { why, pool, threads }) => {
-            assert!(rt; why == CloseNo::Threads);
-            (pool, threads)
-        }
+    let Err(
+        NotClosed {
+            why,
+            pool,
+            mut threads,
+        },
+    ) = pool.close(alloc, threads)
+    else {
+        panic!(rt; "the threads are out of order")
     };
-    assert!(rt; threads.len() == 2);
+    assert!(rt; why == CloseNo::Threads && threads.len() == 2);
     threads.swap(0, 1);
     match pool.close(alloc, threads) {
-        Ok(closed) => assert!(rt; closed.leaks.items().len() == 2),
+        Ok(closed) => assert!(rt; closed.leaks.items().len() == live as usize),
         Err(back) => {
             back.leave();
             panic!(rt; "all threads are there")
@@ -225,91 +247,65 @@ fn closes<B: PoolName, R: Abort>(
     }
 }
 
-// What a pool does in one test.
+// All that waits: buffers are passed on, owned and grow, and then two take all handles of the first
+// thread.
+fn waits<B: PoolName, R: Abort + Wait>(
+    rt: &R,
+    pool: &Pool<B>,
+    first: &mut PoolThread<B>,
+    second: &mut PoolThread<B>,
+) {
+    let all = accesses(rt, pool, first);
+    let part = slices(rt, pool, first, &all);
+    hand_over(rt, pool, first, second, all, part);
+    owns(rt, pool, first, second);
+    grows(rt, pool, first, second);
+    buffer(rt, first.alloc(rt, pool, 100)).leave();
+    buffer(rt, first.alloc(rt, pool, 100)).leave();
+    assert!(rt; refused(first.alloc(rt, pool, 100)) == Some(AllocNo::NoHandle));
+}
+
+// What a pool does whose threads have so many handles each: with one of them all that never waits,
+// with two all that waits. As many roots are live at its end.
 #[derive(Drop)]
 struct Round<'a, R: Abort + Wait> {
     rt: &'a R,
     alloc: Global,
+    handles: u32,
 }
 
 impl<'a, R: Abort + Wait> Serve for Round<'a, R> {
     type Out = ();
 
     fn serve<B: PoolName + Send + Sync>(self, pool: Pool<B>, mut threads: Vec<PoolThread<B>>) {
-        let Round { rt, alloc } = self;
+        let Round { rt, alloc, handles } = self;
         let Some(mut second) = threads.pop() else {
             panic!(rt; "there are two threads")
         };
         let Some(mut first) = threads.pop() else {
             panic!(rt; "there are two threads")
         };
-        let all = accesses(rt, &pool, &mut first);
-        let part = slices(rt, &pool, &mut first, &all);
-        hand_over(rt, &pool, &mut first, &mut second, all, part);
-        owns(rt, &pool, &mut first, &mut second);
-        buffer(rt, first.alloc(rt, &pool, 100)).leave();
-        buffer(rt, first.alloc(rt, &pool, 100)).leave();
-        assert!(rt; refused(first.alloc(rt, &pool, 100)) == Some(AllocNo::NoHandle));
+        if handles == 1 {
+            tries(rt, &pool, &mut first, &mut second);
+        } else {
+            waits(rt, &pool, &mut first, &mut second);
+        }
         threads.push_reserved(second);
         threads.push_reserved(first);
-        closes(rt, alloc, pool, threads);
+        closes(rt, alloc, pool, threads, handles);
     }
 }
 
 #[test]
-fn two_threads_pass_buffers(rt: HostRuntime) {
-    let config = Config::of(SHAPE);
-    assert!(rt;
-        open(
-            rt.alloc(),
-            &config,
-            Round {
-                rt: &rt,
-                alloc: rt.alloc()
-            }
-        )
-        .is_ok()
-    );
-}
-
-// What a thread with no moves and the turns of one allocation and one access may do.
-#[derive(Drop)]
-struct Spends<'a, R: Abort + Wait> {
-    rt: &'a R,
-}
-
-impl<'a, R: Abort + Wait> Serve for Spends<'a, R> {
-    type Out = ();
-
-    fn serve<B: PoolName + Send + Sync>(self, pool: Pool<B>, mut threads: Vec<PoolThread<B>>) {
-        let Spends { rt } = self;
-        let Some(mut me) = threads.pop() else {
-            panic!(rt; "there is a thread")
+fn two_threads_work_with_a_pool(rt: HostRuntime) {
+    let alloc = rt.alloc();
+    for handles in 1..3u32 {
+        let config = Config::of(Shape { handles, ..SHAPE });
+        let round = Round {
+            rt: &rt,
+            alloc,
+            handles,
         };
-        let only = buffer(rt, me.alloc(rt, &pool, 8));
-        assert!(rt; me.left() == (1, 0));
-        assert!(rt; refused(me.retain(&pool, &only)) == Some(AccessNo::Spent));
-        assert!(rt; me.touch(rt, &pool, &only) == Ok(()));
-        assert!(rt; me.touch(rt, &pool, &only) == Err(AccessNo::Spent));
-        assert!(rt; refused(me.alloc(rt, &pool, 8)) == Some(AllocNo::Spent));
-        match me.release(rt, &pool, only) {
-            Ok(_last) => panic!(rt; "no turns are left"),
-            Err(Back { why, buffer }) => {
-                assert!(rt; why == AccessNo::Spent);
-                buffer.leave();
-            }
-        }
-        threads.push_reserved(me);
-        pool.abandon(threads);
+        assert!(rt; open(alloc, &config, round).is_ok());
     }
-}
-
-#[test]
-fn a_thread_spends_what_it_has(rt: HostRuntime) {
-    let config = Config {
-        shape: SHAPE,
-        moves: 0,
-        turns: 7,
-    };
-    assert!(rt; open(rt.alloc(), &config, Spends { rt: &rt }).is_ok());
 }
