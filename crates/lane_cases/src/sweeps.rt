@@ -4,20 +4,21 @@
 //! has a region of another lane's can put it there again and again: until that lane's sweep has made
 //! room, it is in that cache for much of the time.
 
-ghost use Rattle.std.specs.Prelude.{◌≡◌, false, OnOk};
+ghost use Rattle.std.specs.Prelude.{◌≡◌, true, false};
 ghost use Rattle.pool_table.specs.Counts.{HasCount};
 ghost use Rattle.shared_pool.specs.SeatViews.{view_of};
 ghost use Rattle.seat_work.specs.Hands.{empty_hand};
 ghost use Rattle.seat_work.specs.Works.{Works};
 ghost use Rattle.lane_core.specs.Lanes.{IsFinished, IsLane};
 
-use crate::sweeps::filled::{Begun, LAYOUT, begin, leave, step_to_the_last};
+use crate::sweeps::filled::{Begun, LAYOUT, STEPS, begin, leave};
 use crate::sweeps::staying::{fetched, stays};
 use lane_core::{Gate, Lane, Pass, Stepped};
 use pool_law::{Did, Held, Note, Object, RootId};
 use shared_pool::{PoolSeat, SharedPool};
 use size_classes::CACHED_CLASSES;
 use std::alloc::{AllocError, Global};
+use std::mem::ManuallyDrop;
 use std::process::Abort;
 use std::sync::Wait;
 use std::sync::atomic::{AtomicBool, Ordering};
@@ -54,64 +55,70 @@ fn wait(flag: &AtomicBool) {
     }
 }
 
-// Steps the lane to its end. The answer is what held it up first.
-fn step_out<R: Wait>(
+// Steps the lane to its end, or so often. The answer is whether it ended, and what held it up first.
+fn step_on<R: Abort + Wait>(
     rt: &R,
     alloc: Global,
     pool: &SharedPool,
     lane: &mut Lane,
-) -> Result<Option<Held>, AllocError>
+    most: u64,
+) -> (bool, Option<Held>)
     requires lane { IsLane pool.now lane.old }
-    ensures finished { OnOk result (IsFinished lane.new) }
+    ensures lane { IsLane pool.now lane.new }
+    ensures finished { result.0 ≡ true → IsFinished lane.new }
 {
     let mut first = None;
-    for _ in rt.forever() {
-        match lane.step(rt, alloc, pool, &OpenGate)? {
+    for _step in 0..most {
+        let Ok(stepped) = lane.step(rt, alloc, pool, &OpenGate) else {
+            panic!(rt; "ample memory")
+        };
+        match stepped {
             Stepped::Went => (),
-            Stepped::Finished => return Ok(first),
+            Stepped::Finished => return (true, first),
             Stepped::Pending(held) => {
                 if first.is_none() {
                     first = Some(held);
                 }
                 yield_now();
             }
-            Stepped::Waiting { from: _ } => yield_now(),
+            Stepped::Waiting { from: _ } => panic!(rt; "it receives nothing"),
         }
     }
-    unreachable!()
+    (false, first)
 }
 
-// The same once the other one is at its cache, which is told when it is through.
-fn sweeps<R: Wait>(
+// The same to its end, once the other one is at its cache, which is told when it is through.
+fn sweeps<R: Abort + Wait>(
     rt: &R,
     alloc: Global,
     pool: &SharedPool,
     lane: &mut Lane,
     inside: &AtomicBool,
     over: &AtomicBool,
-) -> Result<Option<Held>, AllocError>
+) -> Option<Held>
     requires lane { IsLane pool.now lane.old }
-    ensures finished { OnOk result (IsFinished lane.new) }
+    ensures finished { IsFinished lane.new }
 {
     wait(inside);
-    let held = step_out(rt, alloc, pool, lane);
+    let (ended, held) = step_on(rt, alloc, pool, lane, u64::MAX);
     over.store(true, Ordering::SeqCst);
+    assert!(rt; ended);
     held
 }
 
 // Both at once.
-fn meet<R: Threads + Wait + Sync>(
+fn meet<R: Threads + Abort + Wait + Sync>(
     rt: &R,
     alloc: Global,
     pool: &SharedPool,
     lane: &mut Lane,
     other: &mut PoolSeat,
     root: RootId,
-) -> Result<Option<Held>, AllocError>
+) -> Option<Held>
     requires lane { IsLane pool.now lane.old }
     requires works { Works pool.now empty_hand 1000001 0 other.old }
     requires counts { HasCount root (view_of other.old) }
-    ensures finished { OnOk result (IsFinished lane.new) }
+    ensures finished { IsFinished lane.new }
 {
     let inside = AtomicBool::new(false);
     let over = AtomicBool::new(false);
@@ -130,97 +137,63 @@ fn swept<R: Threads + Abort + Wait + Sync>(
     pool: &SharedPool,
     lane: &mut Lane,
     other: &mut PoolSeat,
-) -> Result<Option<Held>, AllocError>
+) -> Option<Held>
     requires layout { pool.now.layout ≡ LAYOUT }
     requires lane { IsLane pool.now lane.old }
     requires other { Works pool.now empty_hand 1000001 0 other.old }
-    ensures finished { OnOk result (IsFinished lane.new) }
+    ensures finished { IsFinished lane.new }
 {
-    step_to_the_last(rt, alloc, pool, lane)?;
+    let (ended, held) = step_on(rt, alloc, pool, lane, STEPS);
+    assert!(rt; !ended && held.is_none());
     let root = fetched(rt, pool, other);
     meet(rt, alloc, pool, lane, other, root)
 }
 
-// The number of the lane's trim of its first cache, of which all that fills it is to be shed.
-fn first_trim(notes: &[Note]) -> Option<u64> {
+// Whether the sweep's first trim was held up. Whether it was or not, each cache was trimmed once, the
+// first had all 256 to shed that fill it, no mark was noted, and nothing but the first cache held
+// the lane up. The trim comes behind what the other lane did there meanwhile.
+fn waited(rt: &impl Abort, notes: &[Note], held: Option<Held>) -> bool {
+    let cache = Object::Cache { lane: 0, class: 0 };
+    let mut trims = 0u32;
+    let mut first = 0u64;
     for note in notes {
-        if let Some(number) = trim_of_the_first(note) {
-            return Some(number);
+        match note {
+            Note::At {
+                object,
+                number,
+                did: Did::Trim(shed),
+            } => {
+                trims = trims.saturating_add(1);
+                if *object == cache && *shed == 256 {
+                    first = *number;
+                }
+            }
+            Note::Busy(_) => panic!(rt; "it noted a mark"),
+            _ => (),
         }
     }
-    None
-}
-
-fn trim_of_the_first(note: &Note) -> Option<u64> {
-    match note {
-        Note::At {
-            object,
-            number,
-            did: Did::Trim(256),
-        } => match object {
-            Object::Cache { lane: 0, class: 0 } => Some(*number),
-            _ => None,
-        },
-        _ => None,
-    }
-}
-
-fn is_trim(note: &Note) -> bool {
-    match note {
-        Note::At {
-            object: _,
-            number: _,
-            did: Did::Trim(_),
-        } => true,
-        _ => false,
-    }
-}
-
-fn is_mark(note: &Note) -> bool {
-    match note {
-        Note::Busy(_) => true,
-        _ => false,
-    }
-}
-
-// Whether the sweep's first trim was held up. Whether it was or not, each cache was trimmed once, the
-// first had all to shed that fills it, no mark was noted, and nothing but the first cache held the
-// lane up. The trim comes behind what the other lane did there meanwhile.
-fn waited(rt: &impl Abort, notes: &[Note], held: Option<Held>) -> bool {
-    assert_eq!(rt;
-        notes.iter().filter(|note| is_trim(note)).count(),
-        CACHED_CLASSES as usize
-    );
-    assert_eq!(rt; notes.iter().filter(|note| is_mark(note)).count(), 0);
-    let Some(trim) = first_trim(notes) else {
-        panic!(rt; "it isn't trimmed")
-    };
+    assert!(rt; trims == CACHED_CLASSES && first != 0);
     let Some(held) = held else {
         return false;
     };
-    let cache = Object::Cache { lane: 0, class: 0 };
     assert!(rt; held.object == cache);
-    held.number < trim
+    held.number < first
 }
 
-// Whether the sweep of a new lane found the other one in the cache that it trims first.
+// Whether the sweep of a new lane found the other one in the cache that it trims first. The log is
+// left as it is.
 fn meets<R: Threads + Abort + Wait + Sync>(rt: &R, alloc: Global) -> Result<bool, AllocError> {
     let Begun {
         pool,
         mut lane,
         mut other,
     } = begin(alloc)?;
-    match swept(rt, alloc, &pool, &mut lane, &mut other) {
-        Ok(held) => {
-            let (_, log, first) = lane.into_log();
-            leave(pool, first, other);
-            Ok(waited(rt, log.notes.items(), held))
-        }
-        Err(AllocError) => {
-            leave(pool, lane.abandon(), other);
-            Err(AllocError)
-        }
-    }
+    let held = swept(rt, alloc, &pool, &mut lane, &mut other);
+    let (_, log, first) = lane.into_log();
+    leave(pool, first, other);
+    let met = waited(rt, log.notes.items(), held);
+    let _log = unsafe { ManuallyDrop::new_unchecked(log) };
+    Ok(met)
 }
 
 // Each try takes the lane to its end. It is the threads' luck whether the two meet there.

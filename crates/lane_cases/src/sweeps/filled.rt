@@ -9,16 +9,13 @@ ghost use Rattle.seat_work.specs.Works.{Works};
 ghost use Rattle.lane_core.specs.Lanes.{IsLane};
 ghost use Rattle.lane_cases.specs.Plain.{is_plain};
 
-use crate::sweeps::OpenGate;
-use lane_core::{Lane, Stepped};
+use lane_core::Lane;
 use pool_law::{Command, CommandList, Level, Shape};
 use pool_table::Layout;
 use shared_pool::{PoolSeat, SharedPool};
 use size_classes::{DEFAULT_PAGE, SMALL_CACHE_CAPACITY};
 use std::alloc::{AllocError, Global};
 use std::mem::ManuallyDrop;
-use std::process::Abort;
-use std::sync::Wait;
 
 // Two lanes over one chunk of 65,536 bytes. The first one's mails have room for a parcel a command.
 pub(super) const LAYOUT: Layout = Layout {
@@ -57,7 +54,7 @@ const FILLED: u32 = 2 + 2 * FULL + 1;
 const LINES: u32 = FILLED + PERIOD - FULL - 1;
 
 // The steps before the last line: a post, an allocation without a cache, and four for each other one.
-const STEPS: u32 = 1 + 3 + 4 * (LINES - 3);
+pub(super) const STEPS: u64 = 1 + 3 + 4 * (LINES as u64 - 3);
 
 // The command of a line. One small buffer goes to the other lane, as many as its cache holds are
 // allocated and released, and the other pages are allocated. Then no allocation finds a region.
@@ -167,25 +164,4 @@ pub(super) fn begin(alloc: Global) -> Result<Begun, AllocError>
             Err(AllocError)
         }
     }
-}
-
-// Steps the lane as far as its last command.
-pub(super) fn step_to_the_last(
-    rt: &(impl Abort + Wait),
-    alloc: Global,
-    pool: &SharedPool,
-    lane: &mut Lane,
-) -> Result<(), AllocError>
-    requires { IsLane pool.now lane.old }
-    ensures { IsLane pool.now lane.new }
-{
-    for _step in 0..STEPS {
-        match lane.step(rt, alloc, pool, &OpenGate)? {
-            Stepped::Went => (),
-            Stepped::Finished | Stepped::Pending(_) | Stepped::Waiting { from: _ } => panic!(rt;
-                "it goes on alone"
-            ),
-        }
-    }
-    Ok(())
 }
