@@ -1,20 +1,20 @@
-//! A table of runs, and one loop over it.
+//! Two tables of runs, and a loop over each.
 
 mod gates;
 mod rows;
 
 use crate::tests::gates::Barrier;
-use crate::tests::rows::{GIVEN, MOST, RECEIVER_STOPPED, Row, rows};
+use crate::tests::rows::{GIVEN, MET_RUNS, MOST, Row, STOPPED_RUNS, met, stopped};
 use std::alloc::{AllocError, Global};
 use std::sync::Wait;
 use std::test::Fail;
 use std::thread::Threads;
 use trace_top::{ListSink, ListSource, Outcome, Status, line_of, run};
 
-// The words of a text, which stand between its spaces.
-fn words_of(alloc: Global, text: &str) -> Result<Vec<String>, AllocError> {
+// The words that ask for so many workers.
+fn words_of(alloc: Global, workers: &str) -> Result<Vec<String>, AllocError> {
     let mut words = Vec::new(alloc);
-    for word in text.split(' ') {
+    for word in ["--workers", workers] {
         words.push(String::from_str(alloc, word)?)?;
     }
     Ok(words)
@@ -27,7 +27,7 @@ fn ran<R: Threads + Wait + Sync + AllocGlobal>(
     gate: &Barrier,
 ) -> Result<(Outcome, ListSink), AllocError> {
     let alloc = rt.alloc();
-    let words = words_of(alloc, row.words)?;
+    let words = words_of(alloc, row.workers)?;
     let mut source = ListSource::new(alloc, row.trace.as_bytes(), GIVEN, &[row.no_read])?;
     let mut sink = ListSink::new(alloc, row.room, MOST, &[row.no_write])?;
     let outcome = run(rt, alloc, &words, &mut source, &mut sink, gate);
@@ -41,7 +41,7 @@ fn is_text(bytes: &[u8], text: &str) -> bool {
 
 // Whether a row comes to its end.
 fn holds<R: Threads + Wait + Sync + AllocGlobal>(rt: &R, row: &Row) -> Result<bool, AllocError> {
-    let gate = Barrier::new(rt.alloc(), row.stop, row.meets)?;
+    let gate = Barrier::new(row.stop, row.meets);
     let (outcome, sink) = ran(rt, row, &gate)?;
     let line = line_of(rt.alloc(), &outcome)?;
     Ok(
@@ -54,9 +54,13 @@ fn holds<R: Threads + Wait + Sync + AllocGlobal>(rt: &R, row: &Row) -> Result<bo
 
 #[test]
 fn each_row_comes_to_its_end(rt: HostRuntime) -> Result<(), Fail> {
-    for row in rows() {
-        let words = row.words;
-        assert!(rt; holds(&rt, &row)?, "{words}");
+    for k in 0..10usize {
+        let row = stopped(STOPPED_RUNS[k]);
+        assert!(rt; holds(&rt, &row)?, "row {k} of those that are stopped");
+    }
+    for k in 0..8usize {
+        let row = met(MET_RUNS[k]);
+        assert!(rt; holds(&rt, &row)?, "row {k} of those that meet");
     }
     Ok(())
 }
@@ -65,10 +69,8 @@ fn each_row_comes_to_its_end(rt: HostRuntime) -> Result<(), Fail> {
 // run writes its text, or writes nothing and says that memory is out.
 #[test]
 fn tells_where_memory_is_out(rt: HostRuntime) {
-    let row = Row::stopped("--workers 2", (1, 0), RECEIVER_STOPPED, (3, 1));
-    let Ok(gate) = Barrier::new(rt.alloc(), row.stop, false) else {
-        return;
-    };
+    let row = stopped(STOPPED_RUNS[1]);
+    let gate = Barrier::new(row.stop, row.meets);
     let Ok((outcome, sink)) = ran(&rt, &row, &gate) else {
         return;
     };

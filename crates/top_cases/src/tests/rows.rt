@@ -9,6 +9,11 @@ pub const GIVEN: usize = 1;
 /// The most bytes that a sink takes at a write.
 pub const MOST: usize = 10;
 
+// The lines of two faults.
+const NO_READ: &str = "read fault\n";
+
+const NO_WRITE: &str = "write fault\n";
+
 // Room for each of the texts.
 const ROOM: usize = 1000;
 
@@ -16,10 +21,10 @@ const ROOM: usize = 1000;
 const NEVER: u64 = 0;
 
 /// One run.
-#[derive(Clone, Copy, Drop)]
+#[derive(Drop)]
 pub struct Row {
-    /// Its words, with spaces between them.
-    pub words: &'static str,
+    /// How many workers its words ask for.
+    pub workers: &'static str,
     pub trace: &'static str,
     /// The lane that is stopped, and its line.
     pub stop: LanePlace,
@@ -46,8 +51,8 @@ const HAND_OVER: &str = concat!(
     r#"[["recv","x",0],["get","x",0,2],["release","x"]]]"#,
 );
 
-/// What is written of it where the lane that receives is stopped at once, so that nobody fetches the parcel.
-pub const RECEIVER_STOPPED: &str = "\
+// What is written of it where the lane that receives is stopped at once, so that nobody fetches the parcel.
+const RECEIVER_STOPPED: &str = "\
 0.0 alloc ok 16 0.0+0
 0.1 set ok
 0.2 send ok
@@ -107,100 +112,168 @@ const READS: u64 = 33 + 1;
 // How many writes take all of its text, which has 63 bytes.
 const WRITES: u64 = 7;
 
-impl Row {
-    /// A hand-over of which a lane is stopped.
-    pub fn stopped(
-        words: &'static str,
-        stop: LanePlace,
-        text: &'static str,
-        asked: (u64, u64),
-    ) -> Row {
-        Row {
-            words,
-            trace: HAND_OVER,
-            stop,
-            meets: false,
-            no_read: NEVER,
-            no_write: NEVER,
-            room: ROOM,
-            status: Status::Leaks,
-            text,
-            line: "",
-            asked,
-        }
-    }
-}
+/// What a run under a gate that stops a lane is given, and what comes of it: its workers, its trace,
+/// the lane that is stopped and its line, the status, what is written, and for how many lines of its
+/// two lanes the gate was asked.
+pub type StopRow = (
+    &'static str,
+    &'static str,
+    LanePlace,
+    Status,
+    &'static str,
+    (u64, u64),
+);
 
-// A lane that sends itself a buffer, and is stopped.
-fn alone(line: u32, status: Status, text: &'static str) -> Row {
+/// Those of which a lane is stopped: the lane that receives, the lane that sends, and one that sends
+/// itself a buffer.
+pub const STOPPED_RUNS: [StopRow; 10] = [
+    (
+        "1",
+        HAND_OVER,
+        (1, 0),
+        Status::Leaks,
+        RECEIVER_STOPPED,
+        (3, 1),
+    ),
+    (
+        "2",
+        HAND_OVER,
+        (1, 0),
+        Status::Leaks,
+        RECEIVER_STOPPED,
+        (3, 1),
+    ),
+    (
+        "4",
+        HAND_OVER,
+        (1, 0),
+        Status::Leaks,
+        RECEIVER_STOPPED,
+        (3, 1),
+    ),
+    (
+        "16",
+        HAND_OVER,
+        (1, 0),
+        Status::Leaks,
+        RECEIVER_STOPPED,
+        (3, 1),
+    ),
+    (
+        "1",
+        HAND_OVER,
+        (0, 2),
+        Status::Leaks,
+        SENDER_STOPPED,
+        (3, 3),
+    ),
+    (
+        "2",
+        HAND_OVER,
+        (0, 2),
+        Status::Leaks,
+        SENDER_STOPPED,
+        (3, 3),
+    ),
+    (
+        "4",
+        HAND_OVER,
+        (0, 2),
+        Status::Leaks,
+        SENDER_STOPPED,
+        (3, 3),
+    ),
+    (
+        "16",
+        HAND_OVER,
+        (0, 2),
+        Status::Leaks,
+        SENDER_STOPPED,
+        (3, 3),
+    ),
+    (
+        "1",
+        TO_ITSELF,
+        (0, 0),
+        Status::Whole,
+        STOPPED_AT_ONCE,
+        (1, 0),
+    ),
+    (
+        "1",
+        TO_ITSELF,
+        (0, 2),
+        Status::Leaks,
+        STOPPED_BEHIND_ITS_SEND,
+        (3, 0),
+    ),
+];
+
+/// What the ends of a run of two lanes that meet do, and what comes of it: the read and the write
+/// that fail, the room, the status, what is written, the line of the outcome, and for how many lines
+/// of each lane the gate was asked.
+pub type MeetRow = (u64, u64, usize, Status, &'static str, &'static str, u64);
+
+/// Those that meet.
+pub const MET_RUNS: [MeetRow; 8] = [
+    (NEVER, NEVER, ROOM, Status::Whole, AT_ONCE_TEXT, "", 1),
+    (1, NEVER, ROOM, Status::ReadFault, "", NO_READ, 0),
+    (READS, NEVER, ROOM, Status::ReadFault, "", NO_READ, 0),
+    (READS + 1, NEVER, ROOM, Status::Whole, AT_ONCE_TEXT, "", 1),
+    (NEVER, 1, ROOM, Status::WriteFault, "", NO_WRITE, 1),
+    (
+        NEVER,
+        2,
+        ROOM,
+        Status::WriteFault,
+        "0.0 touch ",
+        NO_WRITE,
+        1,
+    ),
+    (
+        NEVER,
+        NEVER,
+        25,
+        Status::WriteFault,
+        "0.0 touch unbound\n1.0 tou",
+        NO_WRITE,
+        1,
+    ),
+    (NEVER, WRITES + 1, ROOM, Status::Whole, AT_ONCE_TEXT, "", 1),
+];
+
+/// The run of a row of the first table.
+pub fn stopped(row: StopRow) -> Row {
+    let (workers, trace, stop, status, text, asked) = row;
     Row {
-        trace: TO_ITSELF,
+        workers,
+        trace,
+        stop,
+        meets: false,
+        no_read: NEVER,
+        no_write: NEVER,
+        room: ROOM,
         status,
-        ..Row::stopped("--workers 1", (0, line), text, (line as u64 + 1, 0))
-    }
-}
-
-// Two lanes that meet.
-fn met() -> Row {
-    Row {
-        trace: AT_ONCE,
-        meets: true,
-        status: Status::Whole,
-        ..Row::stopped("--workers 2", NOWHERE, AT_ONCE_TEXT, (1, 1))
-    }
-}
-
-// The same where a read fails, or a write, or there is little room.
-fn no_read(call: u64) -> Row {
-    Row {
-        no_read: call,
-        status: Status::ReadFault,
-        text: "",
-        line: "read fault\n",
-        asked: (0, 0),
-        ..met()
-    }
-}
-
-fn no_write(call: u64, room: usize, text: &'static str) -> Row {
-    Row {
-        no_write: call,
-        room,
-        status: Status::WriteFault,
         text,
-        line: "write fault\n",
-        ..met()
+        line: "",
+        asked,
     }
 }
 
-/// All of them.
-pub fn rows() -> [Row; 18] {
-    let receiver = |words| Row::stopped(words, (1, 0), RECEIVER_STOPPED, (3, 1));
-    let sender = |words| Row::stopped(words, (0, 2), SENDER_STOPPED, (3, 3));
-    [
-        receiver("--workers 1"),
-        receiver("--workers 2"),
-        receiver("--workers 4"),
-        receiver("--workers 16"),
-        sender("--workers 1"),
-        sender("--workers 2"),
-        sender("--workers 4"),
-        sender("--workers 16"),
-        alone(0, Status::Whole, STOPPED_AT_ONCE),
-        alone(2, Status::Leaks, STOPPED_BEHIND_ITS_SEND),
-        met(),
-        no_read(1),
-        no_read(READS),
-        Row {
-            no_read: READS + 1,
-            ..met()
-        },
-        no_write(1, ROOM, ""),
-        no_write(2, ROOM, "0.0 touch "),
-        no_write(NEVER, 25, "0.0 touch unbound\n1.0 tou"),
-        Row {
-            no_write: WRITES + 1,
-            ..met()
-        },
-    ]
+/// And of one of the second.
+pub fn met(row: MeetRow) -> Row {
+    let (no_read, no_write, room, status, text, line, asked) = row;
+    Row {
+        workers: "2",
+        trace: AT_ONCE,
+        stop: NOWHERE,
+        meets: true,
+        no_read,
+        no_write,
+        room,
+        status,
+        text,
+        line,
+        asked: (asked, asked),
+    }
 }
