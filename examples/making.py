@@ -2,7 +2,6 @@
 from judging import ANSWERS, HISTORY, LEGAL
 
 
-
 def ends_at(lane, place, kept, home):
     """What a lane notes that gets the root at a place, which uses the region for the last time, and closes its own caches, of which none was used."""
     root = f"{place}.1"

@@ -29,7 +29,8 @@ pub enum InputNo {
     ReadFault,
     /// There was no memory.
     Memory,
-    /// A case is asked about, and its text determines no run. That none has that text isn't proved.
+    /// A case is asked about, and its text determines no run, so no legal run in one order has it. That no run
+    /// at all has it isn't proved.
     Unread(Fault),
 }
 

@@ -23,7 +23,7 @@ use trace_text::RowNo;
 /// that trace, over the pool that the words and the trace ask for, with exactly that text, and where the text
 /// determines one, that one: so where the pool can have made one, its notes in one order; of another text it
 /// may be any. `Form` and `ReadFault` have the cause that their names say; where the text is `Unread`, it
-/// determines no run, and the pool can have made none.
+/// determines no run, and the pool can have made none with notes in one order whose numbers are of their types.
 pub fn run_from<S: Source>(alloc: Global, src: &mut S) -> Result<Run, InputNo>
     ensures { IsFound result (source_span S.left S.faults src.old src.new) }
 {

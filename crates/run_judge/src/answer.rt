@@ -25,7 +25,8 @@ pub enum Status {
     Memory = 6,
     /// The run is legal, and neither an order of its notes nor a circle was found; that was written.
     Undecided = 7,
-    /// The text determines no run: a line can't stand where it stands. That this line can't isn't proved.
+    /// The text determines no run, so no legal run in one order has it: a line can't stand where it stands. That
+    /// this line can't isn't proved.
     Unread = 8,
 }
 

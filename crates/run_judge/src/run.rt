@@ -30,7 +30,7 @@ fn bare(status: Status) -> Outcome
 /// further. All is made before the first write. `Memory` may come in place of any other status but `Words`;
 /// every other status has the cause that its name says. Where the text determines a run, that is judged: so where
 /// a run with this text is legal and its notes are in one order. Of another text the run that is found may be
-/// any. So `Legal` says that there is such a run, and `Illegal` and `Unread` that there is none.
+/// any. So `Legal` says that there is such a run, and `Illegal` and `Unread` that there is none in memory.
 #[tactic(auto, unfolding(crate::specs::Outcomes::Explains))]
 pub fn run_judge<S: Source, K: Sink>(
     alloc: Global,

@@ -1,4 +1,4 @@
--- Which replies a command may get, and the lines that show them. No public clause cites this module.
+-- Which replies a command may get, and the lines that show them.
 use Rattle.std.specs.Prelude.{◌≡◌, ℕ, suc, ◌^◌, ◌<◌, List, [], ◌∷◌, ◌++◌}
 use Rattle.hex.specs.Hex.{IsBytes}
 use Rattle.pool_law.specs.declared.command.Command.{Command}

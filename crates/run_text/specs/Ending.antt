@@ -1,4 +1,4 @@
--- The lines of chunks and leaks, and whether their numbers are of their types. No public clause cites this module.
+-- The lines of chunks and leaks, and whether their numbers are of their types.
 use Rattle.std.specs.Prelude.{◌^◌, ◌<◌, List, [], ◌∷◌, ◌++◌, codes, decimal, length, map}
 use Rattle.std.specs.List.{All}
 use Rattle.pool_law.specs.declared.report.ChunkEnd.{ChunkEnd}

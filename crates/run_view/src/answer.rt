@@ -20,7 +20,8 @@ pub enum Status {
     WriteFault = 5,
     /// There was no memory. Nothing was written.
     Memory = 6,
-    /// No run with this text was found: a line can't stand where it stands. This isn't proved.
+    /// No run with this text was found, so no legal run in one order has it. That no run at all has it isn't
+    /// proved.
     Unread = 8,
 }
 

@@ -21,6 +21,7 @@ pub(crate) fn spend(home: Home) {
     }
 }
 
+/// Spends a root place with what it holds.
 pub(crate) fn spend_place(place: RootPlace) {
     let RootPlace {
         generation: _,
