@@ -81,6 +81,7 @@ pub fn allocate<W: Wait>(
 
 // The same. The answer is what the caller doesn't know yet of the root: one word, which is read as it
 // was written, however the caller takes the root apart.
+#[inline(always)]
 fn allocate_named<W: Wait>(
     rt: &W,
     pool: &SharedPool,
@@ -128,7 +129,7 @@ fn named(born: Result<RootId, AllocNo>) -> Result<Name, AllocNo>
 }
 
 // A new root at the place of a handle, with a region of the lane's cache where there is one.
-#[inline]
+#[inline(always)]
 fn allocate_at<W: Wait>(
     rt: &W,
     pool: &SharedPool,

@@ -20,7 +20,7 @@ use size_classes::CACHED_CLASSES;
 use std::sync::Wait;
 
 // The front region of the lane's cache. None where there is none, or where another seat is in it.
-#[inline]
+#[inline(always)]
 pub(crate) fn pop_region(
     pool: &SharedPool,
     seat: &mut PoolSeat,
