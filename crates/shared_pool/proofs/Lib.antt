@@ -47,6 +47,7 @@ pub mod PlaceBirths
 pub mod PlaceCalls
 pub mod BirthCalls
 pub mod PlaceEnds
+pub mod EndCalls
 pub mod SeatShares
 pub mod JoinedParts
 pub mod LastChunks
