@@ -6,7 +6,7 @@ use Rattle.pool_member.specs.declared.counts.Counted.{Counted}
 use Rattle.pool_member.proofs.AloneLaws.{alone_more, alone_now, alone_own}
 use Rattle.pool_member.proofs.CountLaws.{counted_same, counted_within}
 use Rattle.pool_member.proofs.ToldLaws.{counted_here, told_same}
-use Rattle.pool_member.proofs.PlaceLaws.{stand_set, stands_here}
+use Rattle.pool_member.proofs.PlaceLaws.{stand_counted}
 use Rattle.pool_member.proofs.counts.OwnCounts.own.Goals as goal
 
 pub returns-clause-counts : goal.returns-clause-counts
@@ -65,9 +65,6 @@ pub invariant_of-self : goal.invariant_of-self
 invariant_of-self c =
     let cs = c.self.inside.by_place.items in let root = c.args.root in
     let old : Counted = c.index_mut.result.now in
-    let lt : 0 < counted cs root = subst (λ xs. 0 < counted xs root) (sym c.self.view_is) c.requires in
-    let within = counted_within cs root lt in
-    let at : slice_get cs root.place ≡ Some old = slice_get_read cs (length cs) root.place old refl within
-    c.index_mut.ensures.value in
-    stand_set cs root.place (record old { alone = true }) within c.self.invariant
-    (stands_here cs root.place old c.self.invariant at)
+    stand_counted cs root old (record old { alone = true })
+    (subst (λ xs. 0 < counted xs root) (sym c.self.view_is) c.requires)
+    c.index_mut.ensures.value c.self.invariant refl

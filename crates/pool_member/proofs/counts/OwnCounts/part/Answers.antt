@@ -6,7 +6,7 @@ use Rattle.pool_member.specs.declared.counts.Counted.{Counted}
 use Rattle.pool_member.proofs.AloneLaws.{alone_apart, alone_gone, alone_less}
 use Rattle.pool_member.proofs.CountLaws.{taken, counted_within, at_counted}
 use Rattle.pool_member.proofs.ToldLaws.{counted_here, told_same}
-use Rattle.pool_member.proofs.PlaceLaws.{stand_set, stands_here}
+use Rattle.pool_member.proofs.PlaceLaws.{stand_counted}
 use Rattle.pool_member.proofs.counts.OwnCounts.part.Goals as goal
 
 pub returns-clause-counts : goal.returns-clause-counts
@@ -67,9 +67,6 @@ pub invariant_of-self : goal.invariant_of-self
 invariant_of-self c =
     let cs = c.self.inside.by_place.items in let root = c.args.root in
     let old : Counted = c.index_mut-at_place.result.now in
-    let lt : 0 < counted cs root = subst (λ xs. 0 < counted xs root) (sym c.self.view_is) c.requires in
-    let within = counted_within cs root lt in
-    let at : slice_get cs root.place ≡ Some old = slice_get_read cs (length cs) root.place old refl within
-    c.index_mut-at_place.ensures.value in
-    stand_set cs root.place (record old { count = old.count - 1; alone = false }) within c.self.invariant
-    (stands_here cs root.place old c.self.invariant at)
+    stand_counted cs root old (record old { count = old.count - 1; alone = false })
+    (subst (λ xs. 0 < counted xs root) (sym c.self.view_is) c.requires)
+    c.index_mut-at_place.ensures.value c.self.invariant refl

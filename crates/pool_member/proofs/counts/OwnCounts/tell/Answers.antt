@@ -7,7 +7,7 @@ use Rattle.pool_member.specs.declared.counts.Counted.{Counted}
 use Rattle.pool_member.proofs.CountLaws.{counted_same, counted_within}
 use Rattle.pool_member.proofs.AloneLaws.{alone_same}
 use Rattle.pool_member.proofs.ToldLaws.{counted_here, told_more}
-use Rattle.pool_member.proofs.PlaceLaws.{stand_set, stands_here}
+use Rattle.pool_member.proofs.PlaceLaws.{stand_counted}
 use Rattle.pool_member.proofs.counts.OwnCounts.tell.Goals as goal
 
 pub returns-clause-counts : goal.returns-clause-counts
@@ -49,9 +49,6 @@ pub invariant_of-self : goal.invariant_of-self
 invariant_of-self c =
     let cs = c.self.inside.by_place.items in let root = c.args.root in
     let old : Counted = c.index_mut-at_place.result.now in
-    let lt : 0 < counted cs root = subst (λ xs. 0 < counted xs root) (sym c.self.view_is) c.requires in
-    let within = counted_within cs root lt in
-    let at : slice_get cs root.place ≡ Some old = slice_get_read cs (length cs) root.place old refl within
-    c.index_mut-at_place.ensures.value in
-    stand_set cs root.place (record old { told = c.max-at_place.result }) within c.self.invariant
-    (stands_here cs root.place old c.self.invariant at)
+    stand_counted cs root old (record old { told = c.max-at_place.result })
+    (subst (λ xs. 0 < counted xs root) (sym c.self.view_is) c.requires)
+    c.index_mut-at_place.ensures.value c.self.invariant refl
