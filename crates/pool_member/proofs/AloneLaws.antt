@@ -1,5 +1,5 @@
 -- What is kept of the roots that a thread alone has, once what is kept at a place has changed.
-use Rattle.std.proofs.Common.{◌≡◌, ◌≢◌, ◌⊎◌, ◌<◌, Bool, true, false, List, [], ◌∷◌, inl, inr, sym, ap, ◌∙◌, ⊎_elim, Some}
+use Rattle.std.proofs.Common.{◌≡◌, ◌≢◌, ◌⊎◌, ◌<◌, Bool, true, false, List, inl, inr, sym, ap, ◌∙◌, ⊎_elim, arith, Some}
 use Rattle.std.specs.Prelude.{◌&&◌, slice_get, slice_set}
 use Rattle.std.proofs.lemmas.Bool.{cases_eq, and_right}
 use Rattle.history_laws.proofs.Names.{same_root-or}
@@ -56,6 +56,15 @@ module _ (cs : List Counted) (root : RootId) (c : Counted) (at : slice_get cs ro
       (let same = alone other e lt in
       absurd (cc (sym is ∙ alone_here other e ∙ (λ i. same_root c.root (same i) && c.alone)
       ∙ (λ i. differs i && c.alone)))))
+      (λ (ne : other.place ≢ root.place). alone_else x other ne ∙ is)
+      (cases_eq other.place root.place)
+
+  -- and where nothing was counted at the place
+  pub alone_fresh : (x : Counted) → ((other : RootId) → other.place ≡ root.place → counted cs other ≡ 0)
+      → (other : RootId) → 0 < counted cs other → is_alone cs other ≡ true
+      → is_alone (slice_set cs root.place x) other ≡ true
+  alone_fresh x fresh other lt is = ⊎_elim
+      (λ (e : other.place ≡ root.place). absurd (omega (arith, fresh other e, lt)))
       (λ (ne : other.place ≢ root.place). alone_else x other ne ∙ is)
       (cases_eq other.place root.place)
 

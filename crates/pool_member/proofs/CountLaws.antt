@@ -48,6 +48,16 @@ module _ (cs : List Counted) (root : RootId) (c : Counted) (at : slice_get cs ro
       places.added root_of count_of if_counted (λ _. refl) (λ _ _. refl) cs root c at alone
       (record { root = root; count = 1; told = 0; alone = false }) refl (omega (arith, before))
 
+  -- nothing is counted at the place
+  pub added_fresh : ((other : RootId) → other.place ≡ root.place → counted cs other ≡ 0)
+      → (x : Counted) → x.root ≡ root → x.count ≡ 1 → (other : RootId)
+      → counted (slice_set cs root.place x) other ≡ counted cs other + one_for root other
+  added_fresh fresh x same one =
+      let before : counted cs root ≡ 0 = fresh root refl in
+      places.added root_of count_of if_counted (λ _. refl) (λ _ _. refl) cs root c at
+      (λ other here some. absurd (let a = fresh other here in omega (arith, a, some))) x same
+      (omega (arith, before, one))
+
   -- the same root is counted as often as it was
   pub counted_same : (x : Counted) → x.root ≡ c.root → x.count ≡ c.count → (other : RootId)
       → counted (slice_set cs root.place x) other ≡ counted cs other

@@ -27,8 +27,11 @@ use Rattle.pool_member.specs.declared.pending.Pending.{Pending}
 use Rattle.pool_member.specs.Alone.{KeepsAlone}
 use Rattle.pool_member.specs.Counting.{counted, is_alone, known, told}
 use Rattle.pool_member.specs.Pendings.{hand_of, nothing, owed, IsPending}
+use Rattle.pool_member.specs.Refusals.{is_here}
 use Rattle.pool_member.specs.Threads.{Does, HasChanged, IsSettled, IsThread, KeepsOwn}
+use Rattle.pool_member.specs.Windows.{HasPlace, Window}
 use Rattle.pool_member.proofs.Alone.{keeps, Stays}
+use Rattle.pool_member.proofs.CountLaws.{counted_within}
 use Rattle.pool_member.proofs.Letters.{KeepsLetters}
 use Rattle.pool_member.proofs.Pendings.{pending_stays}
 
@@ -38,7 +41,7 @@ pub record Spends (c : Change) (cost : ℕ) (a b : Account) : Type 0 where
   pub turns : b.turns + cost ≡ a.turns
   pub counts : (root : RootId) → counted b.counts root + times root c.gone ≡ counted a.counts root + times root c.got
   pub few : (root : RootId) → times root c.got ≤ cost
-  pub keeps : (root : RootId) → 0 < counted b.counts root → told a.counts root ≤ told b.counts root
+  pub keeps : (root : RootId) → 0 < counted b.counts root → known a.counts root ≤ known b.counts root
   pub places : length b.counts ≡ length a.counts
   pub owns : KeepsOwn c a b
 
@@ -82,7 +85,7 @@ module _ (c : Change) (cost : ℕ) (a b : Account) (lane : b.lane ≡ a.lane) (t
   pub spends_more : (root : RootId) → 0 < cost → ((other : RootId) → times other c.got ≡ one_for root other)
       → ((other : RootId) → times other c.gone ≡ 0)
       → ((other : RootId) → counted b.counts other ≡ counted a.counts other + one_for root other)
-      → ((other : RootId) → 0 < counted b.counts other → told a.counts other ≤ told b.counts other)
+      → ((other : RootId) → 0 < counted b.counts other → known a.counts other ≤ known b.counts other)
       → ((other : RootId) → 0 < counted a.counts other → is_alone a.counts other ≡ true
       → is_alone b.counts other ≡ true) → Spends c cost a b
   spends_more root some got gone counts keeps owns = record {
@@ -123,7 +126,7 @@ module _ (c : Change) (cost : ℕ) (a b : Account) (lane : b.lane ≡ a.lane) (t
     counts =
         λ other. (let p = same other in let q = got other in let r = gone other in omega (arith, p, q, r));
     few = λ other. (let q = got other in omega (arith, q));
-    keeps = λ other lt. keeps other;
+    keeps = λ other lt. (let p = keeps other in omega (arith, p));
     places = places;
     owns = λ other lt none. owns other;
   }
@@ -146,7 +149,7 @@ module _ (pool : SharedPool) (c : Change) (t m cost : ℕ) (old new : Member) (i
     spent = spends.turns;
     counts = spends.counts;
     notes = changes;
-    knows = λ root lt. (let p = spends.keeps root lt in omega (arith, p));
+    knows = spends.keeps;
     alone = alone;
     owns = spends.owns;
   }
@@ -331,3 +334,10 @@ module _ (pool : SharedPool) (m : Member) (is : IsThread pool m) where
   -- it can be counted once more
   pub few_of : (root : RootId) → counted m.account.counts root < 2 ^ 64 - 1
   few_of root = let a = is.few root in omega (arith, a)
+
+-- the root of a buffer that a thread has is at one of the pool's places
+pub here_placed : (pool : SharedPool) (m : Member) (w : Window) → IsThread pool m → is_here m.account w ≡ true
+    → HasPlace pool w.at.root
+here_placed pool m w is here =
+    let lt : 0 < counted m.account.counts w.at.root = grind (arith, here) in
+    let a = counted_within m.account.counts w.at.root lt in let b = is.places in omega (arith, a, b)

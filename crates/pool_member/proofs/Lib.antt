@@ -11,6 +11,10 @@ pub mod Budgets
 pub mod MoveLaws
 pub mod Accessing
 pub mod Settling
+pub mod Turns
+pub mod Releasing
+pub mod Fresh
+pub mod Bearing
 pub mod Asking
 pub mod Allotted
 pub mod Asked

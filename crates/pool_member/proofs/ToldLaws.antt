@@ -1,6 +1,6 @@
 -- What a thread was told of the capacity of roots, where it was told nothing, and once what is kept at a
 -- place has changed.
-use Rattle.std.proofs.Common.{◌≡◌, ◌≢◌, ℕ, ◌<◌, ◌≤◌, max, Bool, true, false, List, [], ◌∷◌, refl, sym, ap, ◌∙◌, subst, ⊎_elim, arith, Some}
+use Rattle.std.proofs.Common.{◌≡◌, ◌≢◌, ℕ, ◌<◌, ◌≤◌, max, Bool, true, false, List, refl, sym, ap, ◌∙◌, subst, ⊎_elim, arith, Some}
 use Rattle.std.specs.Prelude.{if◌then◌else◌, slice_get, slice_set}
 use Rattle.std.proofs.lemmas.Bool.{cases_eq, cases_Bool}
 use Rattle.pool_law.specs.declared.id.RootId.{RootId}
@@ -8,13 +8,16 @@ use Rattle.pool_law.specs.Same.{same_root}
 use Rattle.pool_law.proofs.ListLemmas.{slice_get-set_same, slice_get-set_other, slice_get-below}
 use Rattle.pool_law.proofs.SameLemmas.{same_root-is}
 use Rattle.pool_member.specs.declared.counts.Counted.{Counted}
-use Rattle.pool_member.specs.Counting.{counted, if_counted, if_told, told}
+use Rattle.pool_member.specs.Counting.{counted, if_counted, if_told, known, told}
 use Rattle.pool_member.proofs.CountLaws.{written}
 use Rattle.seat_work.proofs.Counting.{other_place, zero_if}
 
 -- orders of what is equal to other things
 pub same_least : (a b : ℕ) → a ≡ b → a ≤ b
 same_least a b e = omega (arith, e)
+
+pub most_by : (k a b : ℕ) → a ≤ b → max k a ≤ max k b
+most_by k a b le = omega (arith, le)
 
 pub least_by : (a b c d : ℕ) → a ≡ b → b ≤ c → c ≡ d → a ≤ d
 least_by a b c d e le f = omega (arith, e, le, f)
@@ -52,6 +55,12 @@ module _ (cs : List Counted) (root : RootId) (c : Counted) (at : slice_get cs ro
       (λ (ne : other.place ≢ root.place). let a = told_else x other ne in omega (arith, a))
       (cases_eq other.place root.place)
 
+  none_other : (x : Counted) → x.root ≡ root → (other : RootId) → other.place ≡ root.place
+      → same_root root other ≡ false → counted (slice_set cs root.place x) other ≡ 0
+  none_other x is other e apart =
+      written cs root c at x other e ∙ ap (λ (r : RootId). if same_root r other then x.count else 0) is
+      ∙ ap (λ (b : Bool). if b then x.count else 0) apart
+
   pub told_kept : (x : Counted) → x.root ≡ root → same_root c.root root ≡ false → (other : RootId)
       → 0 < counted (slice_set cs root.place x) other → told cs other ≤ told (slice_set cs root.place x) other
   told_kept x is differs other lt = ⊎_elim same
@@ -63,9 +72,25 @@ module _ (cs : List Counted) (root : RootId) (c : Counted) (at : slice_get cs ro
           (λ (equal : same_root root other ≡ true). let before : told cs other ≡ 0 = told_here other e
           ∙ ap (λ (r : RootId). if same_root c.root r then c.told else 0) (sym (same_root-is root other equal))
           ∙ ap (λ (b : Bool). if b then c.told else 0) differs in omega (arith, before))
-          (λ (apart : same_root root other ≡ false). let none : counted (slice_set cs root.place x) other ≡ 0 =
-          written cs root c at x other e ∙ ap (λ (r : RootId). if same_root r other then x.count else 0) is
-          ∙ ap (λ (b : Bool). if b then x.count else 0) apart in absurd (omega (arith, none, lt)))
+          (λ (apart : same_root root other ≡ false). absurd (omega (arith, none_other x is other e apart, lt)))
+          (cases_Bool (same_root root other))
+
+  -- no more was told of the root that takes the place than its name says
+  pub known_kept : (x : Counted) → x.root ≡ root → told cs root ≤ root.capacity → (other : RootId)
+      → 0 < counted (slice_set cs root.place x) other → known cs other ≤ known (slice_set cs root.place x) other
+  known_kept x is low other lt = ⊎_elim same
+      (λ (ne : other.place ≢ root.place). most_by _ _ _ (same_least _ _ (sym (told_else x other ne))))
+      (cases_eq other.place root.place)
+    where
+      least : known cs root ≤ known (slice_set cs root.place x) root
+      least = omega (arith, low)
+
+      same : other.place ≡ root.place → known cs other ≤ known (slice_set cs root.place x) other
+      same e = ⊎_elim
+          (λ (equal : same_root root other ≡ true).
+          subst (λ (r : RootId). known cs r ≤ known (slice_set cs root.place x) r) (same_root-is root other equal)
+          least)
+          (λ (apart : same_root root other ≡ false). absurd (omega (arith, none_other x is other e apart, lt)))
           (cases_Bool (same_root root other))
 
   -- more was told of the root

@@ -1,5 +1,5 @@
 -- What a thread of a pool is, and what its calls change.
-use Rattle.std.specs.Prelude.{◌≡◌, ℕ, ◌+◌, ◌*◌, ◌^◌, ◌<◌, ◌≤◌, Bool, true, false, if◌then◌else◌, nat_lt, length, IsTrue, Option, Some, slice_get}
+use Rattle.std.specs.Prelude.{◌≡◌, ℕ, ◌+◌, ◌-◌, ◌*◌, ◌^◌, ◌<◌, ◌≤◌, Bool, true, false, if◌then◌else◌, nat_lt, length, IsTrue, Option, Some, slice_get}
 use Rattle.pool_law.specs.declared.id.RootId.{RootId}
 use Rattle.pool_table.specs.Capacities.{knows_of}
 use Rattle.pool_table.specs.Counts.{gained_of, lost_of}
@@ -77,6 +77,13 @@ pub record HasChanged (turns : ℕ) (c : Change) (but : Option RootId) (old new 
         known old.account.counts root ≤ known new.account.counts root
     pub alone : KeepsAlone but old new
     pub owns : KeepsOwn c old.account new.account
+
+-- the same thread with so many turns less, and more
+abbrev pub less_turns : ℕ → Member → Member
+less_turns n m = record m { account = record m.account { turns = m.account.turns - n } }
+
+abbrev pub with_turns : ℕ → Member → Member
+with_turns n m = record m { account = record m.account { turns = m.account.turns + n } }
 
 -- it is a thread of the pool still
 pub record Does

@@ -11,8 +11,9 @@ ghost use Rattle.pool_member.specs.Threads.{IsSettled, IsThread};
 use crate::account::Account;
 use crate::answers::{CloseNo, Closed};
 use crate::member::Member;
+use crate::pending::Unsettled;
 use crate::watcher::Watcher;
-use crate::work::settling::{is_nothing, nothing, spend};
+use crate::work::settling::{is_nothing, spend};
 use shared_pool::{PoolSeat, SharedPool};
 use std::alloc::{AllocError, Global};
 
@@ -152,7 +153,7 @@ fn parted(
             pending,
             watcher,
         } = members.remove(0);
-        spend(pending);
+        spend(pending.into_pending());
         seats.push_reserved(seat);
         records.push_reserved(Records { account, watcher });
     }
@@ -178,7 +179,7 @@ fn joined(
         members.push_reserved(Member {
             seat,
             account,
-            pending: nothing(),
+            pending: Unsettled::nothing(),
             watcher,
         });
     }

@@ -83,9 +83,17 @@ impl OwnCounts {
         ensures { result
             ≡ (nat_lt 0 (counted self.now root) && nat_le end (known self.now root)) }
     {
-        let Some(at_place) = self.by_place.get(root.place as usize) else {
-            return false;
-        };
+        (root.place as usize) < self.by_place.len() && self.reaches_at(&root, end)
+    }
+
+    /// The same of a root whose place is known to be one of these.
+    #[inline(always)]
+    pub fn reaches_at(&self, root: &RootId, end: u32) -> bool
+        requires place { root.now.place < length self.now }
+        ensures { result
+            ≡ (nat_lt 0 (counted self.now root.now) && nat_le end (known self.now root.now)) }
+    {
+        let at_place = &self.by_place[root.place as usize];
         // What is kept there is of that place. One test after the other, as each mostly is met.
         if at_place.root.generation != root.generation {
             return false;
@@ -113,7 +121,7 @@ impl OwnCounts {
             counted self.new other ≡ counted self.old other + one_for root other }
         ensures tells { (other : RootId) → told self.new other ≤ told self.old other }
         ensures keeps { (other : RootId) → 0 < counted self.new other →
-            told self.old other ≤ told self.new other }
+            known self.old other ≤ known self.new other }
         ensures alone { (other : RootId) →
             IsTrue (is_alone self.new other) → IsTrue (is_alone self.old other) }
         ensures owns { (other : RootId) → 0 < counted self.old other →
@@ -133,11 +141,38 @@ impl OwnCounts {
         }
     }
 
-    /// Counts a root once less.
-    pub(crate) fn take(&mut self, root: RootId)
-        requires { 0 < counted self.old root }
+    /// Counts a root once that was just born: at its place nothing is counted, and no more was told
+    /// of its capacity than its name says.
+    #[inline(always)]
+    pub(crate) fn add_born(&mut self, root: &RootId)
+        requires place { root.now.place < length self.old }
+        requires fresh { (other : RootId) → other.place ≡ root.now.place →
+            counted self.old other ≡ 0 }
+        requires untold { told self.old root.now ≤ root.now.capacity }
         ensures counts { (other : RootId) →
-            counted self.new other + one_for root other ≡ counted self.old other }
+            counted self.new other ≡ counted self.old other + one_for root.now other }
+        ensures tells { (other : RootId) → told self.new other ≤ told self.old other }
+        ensures keeps { (other : RootId) → 0 < counted self.new other →
+            known self.old other ≤ known self.new other }
+        ensures alone { (other : RootId) →
+            IsTrue (is_alone self.new other) → IsTrue (is_alone self.old other) }
+        ensures owns { (other : RootId) → 0 < counted self.old other →
+            IsTrue (is_alone self.old other) → IsTrue (is_alone self.new other) }
+        ensures places { length self.new ≡ length self.old }
+    {
+        self.by_place[root.place as usize] = Counted {
+            root: in_parts(root),
+            count: 1,
+            told: 0,
+            alone: false,
+        };
+    }
+
+    /// Counts a root once less.
+    pub(crate) fn take(&mut self, root: &RootId)
+        requires { 0 < counted self.old root.now }
+        ensures counts { (other : RootId) →
+            counted self.new other + one_for root.now other ≡ counted self.old other }
         ensures tells { (other : RootId) → told self.new other ≡ told self.old other }
         ensures alone { (other : RootId) → is_alone self.new other ≡ is_alone self.old other }
         ensures places { length self.new ≡ length self.old }
@@ -199,5 +234,17 @@ impl OwnCounts {
     {
         let at_place = &mut self.by_place[root.place as usize];
         at_place.told = at_place.told.max(capacity);
+    }
+}
+
+/// The same root, by its parts, so that it stays in registers.
+#[inline(always)]
+pub fn in_parts(root: &RootId) -> RootId
+    ensures { result ≡ root.now }
+{
+    RootId {
+        place: root.place,
+        generation: root.generation,
+        capacity: root.capacity,
     }
 }

@@ -21,8 +21,8 @@ pub use answers::{
 };
 pub use closing::{CloseMemory, Records, close_all};
 pub use config::Config;
-pub use counts::OwnCounts;
+pub use counts::{OwnCounts, in_parts};
 pub use member::Member;
 pub use opening::new_pool;
-pub use pending::Pending;
+pub use pending::{Pending, Unsettled};
 pub use watcher::Watcher;

@@ -3,7 +3,7 @@
 ghost use Rattle.std.specs.Prelude.{◌≡◌};
 
 use crate::account::Account;
-use crate::pending::Pending;
+use crate::pending::Unsettled;
 use crate::watcher::Watcher;
 use shared_pool::PoolSeat;
 
@@ -15,7 +15,7 @@ pub struct Member {
     /// What it counts, and what it has left.
     pub account: Account,
     /// What it has still to put away.
-    pub pending: Pending,
+    pub pending: Unsettled,
     /// Which of its allocations are watched.
     pub watcher: Watcher,
 }

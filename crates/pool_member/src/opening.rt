@@ -8,8 +8,8 @@ ghost use Rattle.pool_member.specs.Threads.{HasOwnChannels, IsSettled, IsThread}
 use crate::account::Account;
 use crate::counts::OwnCounts;
 use crate::member::Member;
+use crate::pending::Unsettled;
 use crate::watcher::Watcher;
-use crate::work::settling::nothing;
 use pool_law::Shape;
 use pool_table::Layout;
 use shared_pool::{PoolSeat, SharedPool};
@@ -99,7 +99,7 @@ fn members_of(
         members.push_reserved(Member {
             seat,
             account,
-            pending: nothing(),
+            pending: Unsettled::nothing(),
             watcher,
         });
     }

@@ -1,6 +1,6 @@
 //! Which allocations of a thread are watched.
 
-ghost use Rattle.std.specs.Prelude.{◌≡◌, ◌<◌, ◌≤◌};
+ghost use Rattle.std.specs.Prelude.{◌≡◌, ◌-◌, ◌<◌, ◌≤◌, ◌^◌, true, None};
 ghost use Rattle.pool_law.specs.Leaks.{is_sampled, keeps_records};
 ghost use Rattle.pool_law.specs.declared.run.Level.TheVariants.{Paranoid};
 ghost use Rattle.leak_records.specs.Records.{new_sampler};
@@ -53,6 +53,24 @@ impl Watcher {
             births: 0,
             until,
         }
+    }
+
+    /// Whether it is known at once that the thread's next birth is not sampled.
+    #[inline(always)]
+    pub(crate) fn is_quiet(&self) -> bool
+        ensures next { result ≡ true → watch_next self.now ≡ None }
+        ensures counts { result ≡ true → self.now.births < 2 ^ 32 - 1 }
+    {
+        self.births < self.until
+    }
+
+    /// Counts a birth that is not sampled.
+    #[inline(always)]
+    pub(crate) fn count_quiet(&mut self)
+        requires { self.old.births < 2 ^ 32 - 1 }
+        ensures { self.new ≡ with_next self.old }
+    {
+        self.births += 1;
     }
 
     /// The watch of the thread's next birth, just where it is sampled.

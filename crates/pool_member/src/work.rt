@@ -9,3 +9,4 @@ pub mod in_place;
 pub mod passing;
 pub mod settling;
 pub mod trimming;
+pub mod turns;

@@ -15,6 +15,7 @@ ghost use Rattle.pool_member.specs.Counting.{counted, known};
 ghost use Rattle.pool_member.specs.Threads.{Does, IsThread};
 ghost use Rattle.pool_member.specs.Tries.{HasAccessed, StaysOut};
 
+use crate::counts::in_parts;
 use crate::member::Member;
 use pool_law::RootId;
 use shared_pool::{SharedPool, Went};
@@ -25,20 +26,21 @@ use std::sync::Wait;
 pub fn try_set(
     pool: &SharedPool,
     member: &mut Member,
-    root: RootId,
+    root: &RootId,
     offset: u32,
     bytes: &[u8],
 ) -> bool
     requires thread { IsThread pool.now member.old }
-    requires counts { 0 < counted member.old.account.counts root }
+    requires counts { 0 < counted member.old.account.counts root.now }
     requires turns { 1 ≤ member.old.account.turns }
-    requires range { offset + length bytes.now ≤ known member.old.account.counts root }
+    requires range { offset + length bytes.now ≤ known member.old.account.counts root.now }
     ensures { MatchBool result
-        (HasAccessed pool.now root (Did.Set offset bytes.now) (Some root) member.old member.new
-        × LaysOver root offset bytes.now member.old member.new)
-        (StaysOut pool.now root member.old member.new) }
+        (let did = Did.Set offset bytes.now in
+        HasAccessed pool.now root.now did (Some root.now) member.old member.new
+        × LaysOver root.now offset bytes.now member.old member.new)
+        (StaysOut pool.now root.now member.old member.new) }
 {
-    match pool.write(&mut member.seat, root, offset, bytes, false) {
+    match pool.write(&mut member.seat, in_parts(root), offset, bytes, false) {
         Went::Did(_number, ()) => {
             member.account.turns -= 1;
             true
@@ -54,21 +56,21 @@ pub fn wait_to_set<W: Wait>(
     rt: &W,
     pool: &SharedPool,
     member: &mut Member,
-    root: RootId,
+    root: &RootId,
     offset: u32,
     bytes: &[u8],
 )
     requires thread { IsThread pool.now member.old }
-    requires counts { 0 < counted member.old.account.counts root }
+    requires counts { 0 < counted member.old.account.counts root.now }
     requires turns { 1 ≤ member.old.account.turns }
-    requires range { offset + length bytes.now ≤ known member.old.account.counts root }
-    ensures does { Does pool.now 1 no_change (Some root) member.old member.new }
-    ensures laid { LaysOver root offset bytes.now member.old member.new }
+    requires range { offset + length bytes.now ≤ known member.old.account.counts root.now }
+    ensures does { Does pool.now 1 no_change (Some root.now) member.old member.new }
+    ensures laid { LaysOver root.now offset bytes.now member.old member.new }
     ensures moves { member.new.account.moves ≡ member.old.account.moves }
     ensures noted { (number : ℕ) × IsNoted pool.now member.old.seat member.new.seat
-        (Root root.place) number (access root (Did.Set offset bytes.now)) }
+        (Root root.now.place) number (access root.now (Did.Set offset bytes.now)) }
 {
-    set_apart(rt, pool, member, root, offset, bytes);
+    set_apart(rt, pool, member, in_parts(root), offset, bytes);
 }
 
 // The same: seldom, so apart.
@@ -92,7 +94,7 @@ fn set_apart<W: Wait>(
         (Root root.place) number (access root (Did.Set offset bytes.now)) }
 {
     for _ in rt.forever() {
-        if try_set(pool, member, root, offset, bytes) {
+        if try_set(pool, member, &root, offset, bytes) {
             return;
         }
     }
@@ -104,21 +106,21 @@ fn set_apart<W: Wait>(
 pub fn try_get(
     pool: &SharedPool,
     member: &mut Member,
-    root: RootId,
+    root: &RootId,
     offset: u32,
     out: &mut [u8],
 ) -> bool
     requires thread { IsThread pool.now member.old }
-    requires counts { 0 < counted member.old.account.counts root }
+    requires counts { 0 < counted member.old.account.counts root.now }
     requires turns { 1 ≤ member.old.account.turns }
-    requires range { offset + length out.old ≤ known member.old.account.counts root }
+    requires range { offset + length out.old ≤ known member.old.account.counts root.now }
     ensures tried { MatchBool result
-        (HasAccessed pool.now root (Did.Get offset out.new) None member.old member.new
-        × AreLaid member.old root offset out.new)
-        (StaysOut pool.now root member.old member.new × (out.new ≡ out.old)) }
+        (HasAccessed pool.now root.now (Did.Get offset out.new) None member.old member.new
+        × AreLaid member.old root.now offset out.new)
+        (StaysOut pool.now root.now member.old member.new × (out.new ≡ out.old)) }
     ensures len { length out.new ≡ length out.old }
 {
-    match pool.read(&mut member.seat, root, offset, out, false) {
+    match pool.read(&mut member.seat, in_parts(root), offset, out, false) {
         Went::Did(_number, ()) => {
             member.account.turns -= 1;
             true
@@ -134,22 +136,22 @@ pub fn wait_to_get<W: Wait>(
     rt: &W,
     pool: &SharedPool,
     member: &mut Member,
-    root: RootId,
+    root: &RootId,
     offset: u32,
     out: &mut [u8],
 )
     requires thread { IsThread pool.now member.old }
-    requires counts { 0 < counted member.old.account.counts root }
+    requires counts { 0 < counted member.old.account.counts root.now }
     requires turns { 1 ≤ member.old.account.turns }
-    requires range { offset + length out.old ≤ known member.old.account.counts root }
+    requires range { offset + length out.old ≤ known member.old.account.counts root.now }
     ensures does { Does pool.now 1 no_change None member.old member.new }
-    ensures own { AreLaid member.old root offset out.new }
+    ensures own { AreLaid member.old root.now offset out.new }
     ensures moves { member.new.account.moves ≡ member.old.account.moves }
     ensures len { length out.new ≡ length out.old }
     ensures noted { (number : ℕ) × IsNoted pool.now member.old.seat member.new.seat
-        (Root root.place) number (access root (Did.Get offset out.new)) }
+        (Root root.now.place) number (access root.now (Did.Get offset out.new)) }
 {
-    get_apart(rt, pool, member, root, offset, out);
+    get_apart(rt, pool, member, in_parts(root), offset, out);
 }
 
 // The same: seldom, so apart.
@@ -174,7 +176,7 @@ fn get_apart<W: Wait>(
         (Root root.place) number (access root (Did.Get offset out.new)) }
 {
     for _ in rt.forever() {
-        if try_get(pool, member, root, offset, out) {
+        if try_get(pool, member, &root, offset, out) {
             return;
         }
     }

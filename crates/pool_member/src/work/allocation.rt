@@ -1,11 +1,13 @@
 //! How a thread allocates.
 
-ghost use Rattle.std.specs.Prelude.{◌≡◌, ◌<◌, ◌≤◌, None, Some, IfOk, IfErr, MatchResult};
+ghost use Rattle.std.specs.Prelude.{◌≡◌, ◌+◌, ◌-◌, ◌<◌, ◌≤◌, ◌^◌, true, length, IsTrue, None, Some, IfOk, IfErr, MatchResult};
 ghost use Rattle.size_classes.specs.Sizes.{class_of};
 ghost use Rattle.pool_law.specs.Limits.{geometry_of};
 ghost use Rattle.seat_work.specs.Answers.{allocated};
+ghost use Rattle.pool_law.specs.declared.id.RootId.{RootId};
+ghost use Rattle.seat_work.specs.Changes.{one_for};
 ghost use Rattle.seat_work.specs.Works.{HasBorn};
-ghost use Rattle.pool_member.specs.Counting.{counted};
+ghost use Rattle.pool_member.specs.Counting.{counted, is_alone, known, told};
 ghost use Rattle.seat_tries.specs.Allocations as tries;
 ghost use Rattle.pool_member.specs.Allotting.{BearsOf, IsAllotted, IsRefused, IsTryRefused, TriesOf};
 ghost use Rattle.pool_member.specs.Answers.{as_alloc, HasCause};
@@ -15,15 +17,60 @@ ghost use Rattle.pool_member.specs.Watching.{watch_next, with_next};
 
 use crate::member::Member;
 use crate::pending::Pending;
-use crate::work::settling::{keep, settle, try_settle};
+use crate::work::settling::{is_nothing, keep, settle, try_settle};
 use pool_law::RootId;
 use seat_work::AllocNo;
 use shared_pool::SharedPool;
 use std::sync::Wait;
 
+/// Whether the thread's next allocation may go the quick way: nothing is to be put away, and it is
+/// known at once that its birth is not watched.
+#[inline(always)]
+pub fn is_quick(member: &Member) -> bool
+    ensures settled { result ≡ true → IsSettled member.now }
+    ensures next { result ≡ true → watch_next member.now.watcher ≡ None }
+    ensures births { result ≡ true → member.now.watcher.births < 2 ^ 32 - 1 }
+{
+    if !is_nothing(&member.pending) {
+        return false;
+    }
+    member.watcher.is_quiet()
+}
+
+/// Counts a root that was born the quick way: at its place nothing is counted, and no more was told
+/// of its capacity than its name says.
+#[inline(always)]
+pub fn count_born(member: &mut Member, root: &RootId)
+    requires place { root.now.place < length member.old.account.counts }
+    requires fresh { (other : RootId) → other.place ≡ root.now.place →
+        counted member.old.account.counts other ≡ 0 }
+    requires untold { told member.old.account.counts root.now ≤ root.now.capacity }
+    requires births { member.old.watcher.births < 2 ^ 32 - 1 }
+    ensures rest { member.new ≡ record member.old {
+      account = record member.old.account { counts = member.new.account.counts };
+      watcher = with_next member.old.watcher;
+    } }
+    ensures counts { (other : RootId) → counted member.new.account.counts other
+        ≡ counted member.old.account.counts other + one_for root.now other }
+    ensures tells { (other : RootId) →
+        told member.new.account.counts other ≤ told member.old.account.counts other }
+    ensures keeps { (other : RootId) → 0 < counted member.new.account.counts other →
+        known member.old.account.counts other ≤ known member.new.account.counts other }
+    ensures alone { (other : RootId) → IsTrue (is_alone member.new.account.counts other) →
+        IsTrue (is_alone member.old.account.counts other) }
+    ensures owns { (other : RootId) → 0 < counted member.old.account.counts other →
+        IsTrue (is_alone member.old.account.counts other) →
+        IsTrue (is_alone member.new.account.counts other) }
+    ensures places { length member.new.account.counts ≡ length member.old.account.counts }
+{
+    member.account.counts.add_born(root);
+    member.watcher.count_quiet();
+}
+
 /// A new root of `size` bytes, all 0, which the thread then counts once. `class` is that of the
 /// size. It is watched where the thread's next birth is sampled, and only a root that is born is
-/// counted for that. Nothing is left to put away.
+/// counted for that. Nothing is left to put away. The quick way is its caller's, so it stands apart.
+#[inline(never)]
 pub fn allocate<W: Wait>(
     rt: &W,
     pool: &SharedPool,

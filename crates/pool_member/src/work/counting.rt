@@ -1,20 +1,20 @@
 //! How a thread counts a root once more and once less, and how often all threads count it.
 
-ghost use Rattle.std.specs.Prelude.{◌≡◌, ◌+◌, ◌<◌, ◌≤◌, IfSome, IfNone, None};
+ghost use Rattle.std.specs.Prelude.{◌≡◌, ◌+◌, ◌<◌, ◌≤◌, length, IfSome, IfNone, None};
+ghost use Rattle.pool_law.specs.declared.id.RootId.{RootId};
 ghost use Rattle.pool_law.specs.declared.note.RefDid.TheVariants.{Look};
 ghost use Rattle.pool_table.specs.Counts.{with_ref};
 ghost use Rattle.shared_pool.specs.SeatViews.{HasView, view_of};
-ghost use Rattle.seat_work.specs.Changes.{no_change, once_less, once_more};
+ghost use Rattle.seat_work.specs.Changes.{no_change, once_less, once_more, one_for};
 ghost use Rattle.seat_tries.specs.Leaving.{MeetsOther};
-ghost use Rattle.pool_member.specs.Counting.{counted};
+ghost use Rattle.pool_member.specs.Counting.{counted, is_alone, told};
 ghost use Rattle.pool_member.specs.Threads.{Does, IsSettled, IsThread, moves_after, Settles};
 
 use crate::member::Member;
 use crate::pending::Pending;
-use crate::work::settling::{keep, settle, try_settle};
+use crate::work::settling::{keep, try_settle};
 use pool_law::RootId;
 use shared_pool::SharedPool;
-use std::sync::Wait;
 
 /// The moves of all threads of a pool together are below this.
 const MOST_MOVES: u32 = 1_073_741_824;
@@ -34,25 +34,31 @@ pub fn retain(pool: &SharedPool, member: &mut Member, root: RootId)
     member.account.counts.add(root);
 }
 
-/// The thread counts the root once less. True exactly where that was the last count of all threads
-/// and parcels. Nothing is left to put away.
-pub fn release<W: Wait>(rt: &W, pool: &SharedPool, member: &mut Member, root: RootId) -> bool
-    requires thread { IsThread pool.now member.old }
-    requires counts { 0 < counted member.old.account.counts root }
-    requires turns { 4 ≤ member.old.account.turns }
-    ensures does { Does pool.now 4 (once_less root result) None member.old member.new }
-    ensures settled { IsSettled member.new }
-    ensures moves { member.new.account.moves ≡ moves_after result member.old.account.moves }
+/// The thread counts a root once less that its seat released: what follows the step. The move comes
+/// back where that wasn't the last count.
+#[inline(always)]
+pub fn count_less(member: &mut Member, root: &RootId, last: bool)
+    requires { 0 < counted member.old.account.counts root.now }
+    ensures rest { member.new ≡ record member.old {
+      account = record member.old.account {
+        moves = moves_after last member.old.account.moves;
+        counts = member.new.account.counts;
+      };
+    } }
+    ensures counts { (other : RootId) → counted member.new.account.counts other
+        + one_for root.now other ≡ counted member.old.account.counts other }
+    ensures tells { (other : RootId) →
+        told member.new.account.counts other ≡ told member.old.account.counts other }
+    ensures alone { (other : RootId) →
+        is_alone member.new.account.counts other ≡ is_alone member.old.account.counts other }
+    ensures places { length member.new.account.counts ≡ length member.old.account.counts }
 {
-    settle(rt, pool, member);
-    member.account.turns -= 4;
-    let last = seat_work::release(rt, pool, &mut member.seat, root);
     member.account.counts.take(root);
     regain(&mut member.account.moves, last);
-    last
 }
 
-/// The same in one try. None where the thread has something to put away that it could not; where
+/// The thread counts the root once less, in one try. True exactly where that was the last count of all
+/// threads and parcels. None where the thread has something to put away that it could not; where
 /// the root ended, something may be left.
 pub fn try_release(pool: &SharedPool, member: &mut Member, root: RootId) -> Option<bool>
     requires thread { IsThread pool.now member.old }
@@ -83,7 +89,7 @@ fn try_release_settled(pool: &SharedPool, member: &mut Member, root: RootId) -> 
 {
     member.account.turns -= 4;
     let (last, left) = seat_tries::release(pool, &mut member.seat, root);
-    member.account.counts.take(root);
+    member.account.counts.take(&root);
     regain(&mut member.account.moves, last);
     keep(&mut member.pending, Pending::Tried(left));
     last

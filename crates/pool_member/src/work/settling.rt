@@ -1,6 +1,6 @@
 //! How a thread goes on with what it has still to put away.
 
-ghost use Rattle.std.specs.Prelude.{◌≡◌, ◌+◌, ◌≤◌, ◌↔◌, false, IsTrue, None, Some};
+ghost use Rattle.std.specs.Prelude.{◌≡◌, ◌+◌, ◌<◌, ◌≤◌, ◌^◌, ◌↔◌, false, IsTrue, None, Some};
 ghost use Rattle.pool_law.specs.Patterns.{give_back};
 ghost use Rattle.shared_pool.specs.SeatViews.{view_of};
 ghost use Rattle.seat_work.specs.Answers.{hand_with};
@@ -11,10 +11,11 @@ ghost use Rattle.seat_tries.specs.Leaving.{MeetsOther};
 ghost use Rattle.seat_tries.specs.Taking.{taken};
 ghost use Rattle.pool_member.specs.Pendings.{hand_of, left_of, nothing, owed, IsPending, PutsAway};
 ghost use Rattle.pool_member.specs.Returns.{given, given_with};
-ghost use Rattle.pool_member.specs.Threads.{IsSettled, IsThread, Settles};
+ghost use Rattle.pool_member.specs.Threads.{IsSettled, IsThread, Settles, with_turns};
 
 use crate::member::Member;
-use crate::pending::Pending;
+use crate::pending::{Pending, Unsettled};
+use crate::work::turns::give_back;
 use pool_law::Region;
 use seat_tries::{Begun, finish};
 use shared_pool::{PoolSeat, SharedPool, Went};
@@ -30,22 +31,18 @@ pub(crate) const fn nothing() -> Pending
 
 /// Whether nothing is to be put away.
 #[inline(always)]
-pub fn is_nothing(pending: &Pending) -> bool
+pub fn is_nothing(pending: &Unsettled) -> bool
     ensures { IsTrue result ↔ (pending.now ≡ nothing) }
 {
-    if let Pending::Tried(Begun::Nothing) = pending {
-        true
-    } else {
-        false
-    }
+    pending.is_nothing()
 }
 
 /// What is left takes the place of nothing.
-pub(crate) fn keep(pending: &mut Pending, left: Pending)
+pub(crate) fn keep(pending: &mut Unsettled, left: Pending)
     requires { pending.old ≡ nothing }
     ensures { pending.new ≡ left }
 {
-    spend(replace(pending, left));
+    spend(replace(pending, Unsettled::new(left)).into_pending());
 }
 
 /// Lets nothing go.
@@ -100,9 +97,9 @@ pub fn try_settle(pool: &SharedPool, member: &mut Member) -> bool
     if is_nothing(&member.pending) {
         return true;
     }
-    let pending = replace(&mut member.pending, nothing());
+    let pending = replace(&mut member.pending, Unsettled::nothing()).into_pending();
     let left = put_away(pool, &mut member.seat, pending);
-    let settled = is_nothing(&left);
+    let settled = left.is_nothing();
     keep(&mut member.pending, left);
     settled
 }
@@ -117,6 +114,20 @@ pub fn settle<W: Wait>(rt: &W, pool: &SharedPool, member: &mut Member)
     if !is_nothing(&member.pending) {
         wait_to_settle(rt, pool, member);
     }
+}
+
+/// The same of a thread that has something to put away, and has taken so many turns of the call that
+/// goes on behind. Seldom, so apart.
+#[inline(never)]
+pub fn settle_between<W: Wait>(rt: &W, pool: &SharedPool, member: &mut Member, turns: u64)
+    requires thread { IsThread pool.now (with_turns turns member.old) }
+    requires turns { member.old.account.turns + turns < 2 ^ 64 }
+    ensures settles { Settles pool.now (with_turns turns member.old) (with_turns turns member.new) }
+    ensures settled { IsSettled member.new }
+{
+    give_back(member, turns);
+    wait_to_settle(rt, pool, member);
+    member.account.turns -= turns;
 }
 
 // The same of a thread that has something to put away.

@@ -11,7 +11,7 @@ ghost use Rattle.pool_member.specs.Trims.{AreEmpty, FindsEmpty, HasPaid, HasShed
 use crate::answers::{TrimNo, TryTrimNo};
 use crate::member::Member;
 use crate::pending::Pending;
-use crate::work::settling::{give, is_nothing, keep, settle, try_settle};
+use crate::work::settling::{give, keep, settle, try_settle};
 use shared_pool::{PoolSeat, SharedPool, Went};
 use size_classes::CACHED_CLASSES;
 use std::sync::Wait;
@@ -64,7 +64,7 @@ fn give_one(pool: &SharedPool, member: &mut Member, class: u32) -> Result<bool, 
     member.account.turns -= SHED_TURNS;
     match shed_one(pool, &mut member.seat, class) {
         Shed::One(left) => {
-            let ended = is_nothing(&left);
+            let ended = left.is_nothing();
             keep(&mut member.pending, left);
             if ended {
                 Ok(true)

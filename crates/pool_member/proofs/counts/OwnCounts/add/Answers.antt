@@ -10,7 +10,7 @@ use Rattle.pool_member.specs.declared.counts.Counted.{Counted}
 use Rattle.pool_member.specs.contracts.counts.OwnCounts.{the_view}
 use Rattle.pool_member.proofs.CountLaws.{added_again, added_first}
 use Rattle.pool_member.proofs.AloneLaws.{alone_kept, alone_less, alone_same}
-use Rattle.pool_member.proofs.ToldLaws.{least_by, same_least, told_kept, told_less, told_same}
+use Rattle.pool_member.proofs.ToldLaws.{least_by, most_by, same_least, told_kept, told_less, told_same}
 use Rattle.pool_member.proofs.PlaceLaws.{stand_set, stands_here}
 use Rattle.pool_member.proofs.counts.OwnCounts.add.Goals as goal
 use Rattle.pool_member.proofs.counts.OwnCounts.add.Goals.{then-eq, else-eq}
@@ -67,17 +67,17 @@ returns-clause-keeps c =
     c.index_mut-at_place.ensures.value in
     elim c.if-eq.branch [
       | then-eq w ↦
-          λ other some. least_by _ _ _ _ (sym (ap (λ xs. told xs other) c.self.view_is))
+          λ other some. most_by _ _ _ (least_by _ _ _ _ (sym (ap (λ xs. told xs other) c.self.view_is))
           (same_least _ _ (sym (told_same cs root old at
           (record old { count = old.count + 1 }) refl refl other)))
-          (sym (ap (λ x. told (the_view x) other) w.self-inside-is))
+          (sym (ap (λ x. told (the_view x) other) w.self-inside-is)))
       | else-eq w ↦
           let tests = w.if-eq.false in let means = c.eq.ensures in
           let differs : same_root old.root root ≡ false = first_of (search rules, grind (arith, common_steps)) in
-          λ other some. least_by _ _ _ _ (sym (ap (λ xs. told xs other) c.self.view_is))
+          λ other some. most_by _ _ _ (least_by _ _ _ _ (sym (ap (λ xs. told xs other) c.self.view_is))
           (told_kept cs root old at (record { root = root; count = 1; told = 0; alone = false }) refl differs other
           (subst (λ x. 0 < counted (the_view x) other) w.self-inside-is some))
-          (sym (ap (λ x. told (the_view x) other) w.self-inside-is))
+          (sym (ap (λ x. told (the_view x) other) w.self-inside-is)))
     ]
 
 pub returns-clause-alone : goal.returns-clause-alone

@@ -11,7 +11,7 @@ use Rattle.pool_member.proofs.counts.OwnCounts.take.Goals as goal
 
 pub returns-clause-counts : goal.returns-clause-counts
 returns-clause-counts c =
-    let cs = c.self.inside.by_place.items in let root = c.args.root in let old : Counted = c.index_mut.result.now in
+    let cs = c.self.inside.by_place.items in let root = c.args.root.now in let old : Counted = c.index_mut.result.now in
     let lt : 0 < counted cs root = subst (λ xs. 0 < counted xs root) (sym c.self.view_is) c.requires in
     let at : slice_get cs root.place ≡ Some old = slice_get_read cs (length cs) root.place old refl
     (counted_within cs root lt) c.index_mut.ensures.value in
@@ -23,7 +23,7 @@ returns-clause-counts c =
 
 pub returns-clause-tells : goal.returns-clause-tells
 returns-clause-tells c =
-    let cs = c.self.inside.by_place.items in let root = c.args.root in let old : Counted = c.index_mut.result.now in
+    let cs = c.self.inside.by_place.items in let root = c.args.root.now in let old : Counted = c.index_mut.result.now in
     let lt : 0 < counted cs root = subst (λ xs. 0 < counted xs root) (sym c.self.view_is) c.requires in
     let at : slice_get cs root.place ≡ Some old = slice_get_read cs (length cs) root.place old refl
     (counted_within cs root lt) c.index_mut.ensures.value in
@@ -33,7 +33,7 @@ returns-clause-tells c =
 
 pub returns-clause-alone : goal.returns-clause-alone
 returns-clause-alone c =
-    let cs = c.self.inside.by_place.items in let root = c.args.root in let old : Counted = c.index_mut.result.now in
+    let cs = c.self.inside.by_place.items in let root = c.args.root.now in let old : Counted = c.index_mut.result.now in
     let lt : 0 < counted cs root = subst (λ xs. 0 < counted xs root) (sym c.self.view_is) c.requires in
     let at : slice_get cs root.place ≡ Some old = slice_get_read cs (length cs) root.place old refl
     (counted_within cs root lt) c.index_mut.ensures.value in
@@ -43,7 +43,7 @@ returns-clause-alone c =
 
 pub invariant_of-self : goal.invariant_of-self
 invariant_of-self c =
-    let cs = c.self.inside.by_place.items in let root = c.args.root in
+    let cs = c.self.inside.by_place.items in let root = c.args.root.now in
     let old : Counted = c.index_mut.result.now in
     stand_counted cs root old (record old { count = old.count - 1 })
     (subst (λ xs. 0 < counted xs root) (sym c.self.view_is) c.requires)
