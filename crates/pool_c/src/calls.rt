@@ -100,7 +100,7 @@ impl Held {
         let inside = buffer.has_range(start, bytes.len());
         let root = self.may(buffer, inside, 1, 0)?;
         let offset = buffer.offset + start;
-        if access::try_set(&self.common.shared, &mut self.member, root, offset, bytes) {
+        if access::try_set(&self.common.shared, &mut self.member, &root, offset, bytes) {
             Ok(())
         } else {
             Err(Refusal::Busy)
@@ -123,7 +123,7 @@ impl Held {
         let inside = buffer.has_range(start, out.len());
         let root = self.may(buffer, inside, 1, 0)?;
         let offset = buffer.offset + start;
-        if access::try_get(&self.common.shared, &mut self.member, root, offset, out) {
+        if access::try_get(&self.common.shared, &mut self.member, &root, offset, out) {
             Ok(())
         } else {
             Err(Refusal::Busy)
