@@ -16,11 +16,14 @@ pub struct Buffer<B: PoolName> {
 }
 
 impl<B: PoolName> Model for Buffer<B> {
-    ghost use Rattle.pool_member.specs.Windows.{Window};
+    ghost use Rattle.std.specs.Prelude.{IfSome};
+    ghost use Rattle.pool_member.specs.Windows.{HasPlace, Window};
 
     ghost Value = { Window };
 
     ghost view = { λ b. record { at = b.view.at; thread = b.thread } };
+
+    ghost invariant = { λ b. IfSome B.pool (λ pool. HasPlace pool b.view.at.root) };
 }
 
 impl<B: PoolName> Buffer<B> {

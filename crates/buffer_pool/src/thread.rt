@@ -1,8 +1,12 @@
 //! The threads of a pool.
 
-ghost use Rattle.std.specs.Prelude.{◌≡◌};
+ghost use Rattle.std.specs.Prelude.{◌≡◌, ◌+◌, ◌&&◌, nat_le, nat_lt};
+ghost use Rattle.pool_member.specs.Counting.{counted, known};
+ghost use Rattle.pool_member.specs.Refusals.{is_here};
 
+use crate::buffer::Buffer;
 use crate::name::PoolName;
+use crate::pool::Pool;
 use pool_member::Member;
 use std::marker::{Model, PhantomData};
 
@@ -43,6 +47,50 @@ impl<B: PoolName> PoolThread<B> {
         ensures { result ≡ self.now.account.lane }
     {
         self.member.account.lane
+    }
+
+    // Whether a buffer is the thread's, as `Buffer::is_here` tells it.
+    #[inline(always)]
+    pub(crate) fn has(&self, pool: &Pool<B>, buffer: &Buffer<B>) -> bool
+        ensures { result ≡ is_here self.now.account buffer.now }
+    {
+        self.member.account.lane == buffer.thread && self.reaches(pool, buffer)
+    }
+
+    // The same for an access, which asks for the number of the seat anyway.
+    #[inline(always)]
+    pub(crate) fn has_by_seat(&self, pool: &Pool<B>, buffer: &Buffer<B>) -> bool
+        ensures { result ≡ is_here self.now.account buffer.now }
+    {
+        self.seat_number(pool) == buffer.thread && self.reaches(pool, buffer)
+    }
+
+    // Its number, as its seat tells it.
+    #[inline(always)]
+    fn seat_number(&self, pool: &Pool<B>) -> u32
+        ensures { result ≡ self.now.account.lane }
+    {
+        let _shared = &pool.shared;
+        let Some(number) = self.member.seat.number() else {
+            unreachable!()
+        };
+        number
+    }
+
+    // Whether the thread counts the root of a buffer, and knows of its capacity where the buffer
+    // ends. That the root is at one of the pool's places is known, and not tested.
+    #[inline(always)]
+    fn reaches(&self, pool: &Pool<B>, buffer: &Buffer<B>) -> bool
+        ensures { let at = buffer.now.at in let counts = self.now.account.counts in
+            result ≡ (nat_lt 0 (counted counts at.root)
+            && nat_le (at.offset + at.len) (known counts at.root)) }
+    {
+        let _shared = &pool.shared;
+        let end = buffer.view.at.offset + buffer.view.at.len;
+        self.member
+            .account
+            .counts
+            .reaches_at(&buffer.view.at.root, end)
     }
 
     /// How many turns and moves it has left, at least.

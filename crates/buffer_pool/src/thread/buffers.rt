@@ -24,9 +24,8 @@ use crate::pool::Pool;
 use crate::thread::PoolThread;
 use byte_view::View;
 use pool_law::RootId;
-use pool_member::work::allocation::allocate;
-use pool_member::work::counting;
-use pool_member::{AccessNo, AllocNo};
+use pool_member::work::{allocation, counting, settling, turns};
+use pool_member::{AccessNo, AllocNo, in_parts};
 use std::marker::PhantomData;
 use std::sync::Wait;
 
@@ -40,6 +39,7 @@ impl<B: PoolName> PoolThread<B> {
     /// once. A refusal leaves its counts as they were, and which of its next buffers are watched;
     /// for want of turns, and where the buffer is too large, nothing has changed. Nothing is left to
     /// put away of what calls that never wait began.
+    #[inline(always)]
     pub fn alloc<W: Wait>(
         &mut self,
         rt: &W,
@@ -73,35 +73,38 @@ impl<B: PoolName> PoolThread<B> {
         let Some(class) = pool.sizes.class_of(size) else {
             return Err(AllocNo::TooLarge);
         };
-        if self.member.account.turns < ALLOC_TURNS {
+        let member = &mut self.member;
+        if turns::lacks(member, ALLOC_TURNS) {
             return Err(AllocNo::Spent);
         }
-        match allocate(rt, &pool.shared, &mut self.member, size, class) {
-            Ok(root) => {
-                // By its parts, so that it stays in registers.
-                let RootId {
-                    place,
-                    generation,
-                    capacity,
-                } = root;
-                let parts = RootId {
-                    place,
-                    generation,
-                    capacity,
-                };
-                Ok(Buffer {
-                    view: View::of_root(parts),
-                    thread: self.member.account.lane,
-                    of: PhantomData,
-                })
+        let root = if allocation::is_quick(member) {
+            // Called here itself: behind each call that may wait a program makes a test.
+            match seat_work::allocate(rt, &pool.shared, &mut member.seat, size, class, None) {
+                Ok(root) => {
+                    let root = in_parts(&root);
+                    allocation::count_born(member, &root);
+                    root
+                }
+                Err(no) => return Err(alloc_no(no)),
             }
-            Err(no) => Err(alloc_no(no)),
-        }
+        } else {
+            turns::give_back(member, ALLOC_TURNS);
+            match allocation::allocate(rt, &pool.shared, member, size, class) {
+                Ok(root) => sized(&root, size),
+                Err(no) => return Err(alloc_no(no)),
+            }
+        };
+        Ok(Buffer {
+            view: View::of_root(root),
+            thread: member.account.lane,
+            of: PhantomData,
+        })
     }
 
     /// Gives a count back. True exactly where it was the last one of all threads and parcels: the
     /// memory went back to the pool then, and nothing is left to put away. A refusal changes nothing,
     /// and hands the buffer back.
+    #[inline(always)]
     pub fn release<W: Wait>(
         &mut self,
         rt: &W,
@@ -117,12 +120,25 @@ impl<B: PoolName> PoolThread<B> {
         ensures settled { OnOk result (IsSettled self.new) }
         ensures back { IfErr result (λ back. (back.buffer ≡ buffer) × (self.new ≡ self.old)) }
     {
-        let root = buffer.view.at.root;
-        if let Err(why) = buffer.may(&self.member.account, RELEASE_TURNS) {
+        if !self.has(pool, &buffer) {
+            let why = AccessNo::NotHere;
             return Err(Back { why, buffer });
         }
+        let member = &mut self.member;
+        if turns::lacks(member, RELEASE_TURNS) {
+            let why = AccessNo::Spent;
+            return Err(Back { why, buffer });
+        }
+
+        // Called here itself: behind each call that may wait a program makes a test.
+        if !settling::is_nothing(&member.pending) {
+            settling::settle_between(rt, &pool.shared, member, RELEASE_TURNS);
+        }
+        let root = &buffer.view.at.root;
+        let last = seat_work::release(rt, &pool.shared, &mut member.seat, in_parts(root));
+        counting::count_less(member, root, last);
         buffer.leave();
-        Ok(counting::release(rt, &pool.shared, &mut self.member, root))
+        Ok(last)
     }
 
     /// Another buffer on the same bytes, with a count of its own, and its reader and its writer
@@ -204,6 +220,18 @@ impl<B: PoolName> PoolThread<B> {
         let root = buffer.view.at.root;
         buffer.may(&self.member.account, 0)?;
         Ok(counting::look(&pool.shared, &mut self.member, root))
+    }
+}
+
+// The same root, whose capacity is known.
+#[inline(always)]
+fn sized(root: &RootId, capacity: u32) -> RootId
+    ensures { root.now.capacity ≡ capacity → result ≡ root.now }
+{
+    RootId {
+        place: root.place,
+        generation: root.generation,
+        capacity,
     }
 }
 

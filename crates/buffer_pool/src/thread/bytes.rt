@@ -28,6 +28,7 @@ impl<B: PoolName> PoolThread<B> {
     // Where in its root `len` bytes of a buffer lie, from `start` on, if they may be accessed.
     pub(crate) fn may_access(
         &self,
+        pool: &Pool<B>,
         buffer: &Buffer<B>,
         start: u32,
         len: usize,
@@ -41,11 +42,20 @@ impl<B: PoolName> PoolThread<B> {
             × (1 ≤ self.now.account.turns)) }
     {
         let offset = offset_of(&buffer.view, start, len);
-        buffer.may_part(&self.member.account, offset.is_some(), 0)?;
-        offset.ok_or(AccessNo::Range)
+        if !self.has_by_seat(pool, buffer) {
+            return Err(AccessNo::NotHere);
+        }
+        let Some(offset) = offset else {
+            return Err(AccessNo::Range);
+        };
+        if self.member.account.turns < 1 {
+            return Err(AccessNo::Spent);
+        }
+        Ok(offset)
     }
 
     /// Lays bytes over those of a buffer, from `start` on.
+    #[inline(always)]
     pub fn set<W: Wait>(
         &mut self,
         rt: &W,
@@ -68,8 +78,8 @@ impl<B: PoolName> PoolThread<B> {
             (access b.at.root (Did.Set (root_index b.at start) bytes.now))) }
         ensures unchanged { OnErr result (self.new ≡ self.old) }
     {
-        let offset = self.may_access(buffer, start, bytes.len())?;
-        let root = buffer.view.at.root;
+        let offset = self.may_access(pool, buffer, start, bytes.len())?;
+        let root = &buffer.view.at.root;
         let member = &mut self.member;
         if !access::try_set(&pool.shared, member, root, offset, bytes) {
             access::wait_to_set(rt, &pool.shared, member, root, offset, bytes);
@@ -78,6 +88,7 @@ impl<B: PoolName> PoolThread<B> {
     }
 
     /// Copies bytes of a buffer out, from `start` on, as many as there is room for.
+    #[inline(always)]
     pub fn get<W: Wait>(
         &mut self,
         rt: &W,
@@ -100,8 +111,8 @@ impl<B: PoolName> PoolThread<B> {
         ensures len { length out.new ≡ length out.old }
         ensures unchanged { OnErr result ((self.new ≡ self.old) × (out.new ≡ out.old)) }
     {
-        let offset = self.may_access(buffer, start, out.len())?;
-        let root = buffer.view.at.root;
+        let offset = self.may_access(pool, buffer, start, out.len())?;
+        let root = &buffer.view.at.root;
         let member = &mut self.member;
         if !access::try_get(&pool.shared, member, root, offset, out) {
             access::wait_to_get(rt, &pool.shared, member, root, offset, out);
@@ -200,7 +211,7 @@ impl<B: PoolName> PoolThread<B> {
             (access b.at.root (Did.Get (root_index b.at start) bytes))) }
         ensures unchanged { OnErr result (self.new ≡ self.old) }
     {
-        let offset = self.may_access(buffer, start, len as usize)?;
+        let offset = self.may_access(pool, buffer, start, len as usize)?;
         let root = buffer.view.at.root;
         Ok(access::with_bytes(rt, &pool.shared, &mut self.member, root, offset, len, f))
     }

@@ -48,7 +48,7 @@ impl<B: PoolName> PoolThread<B> {
             × LaysOver at.root (root_index at start) bytes self.old self.new) }
         ensures unchanged { OnErr result (self.new ≡ self.old) }
     {
-        let offset = self.may_access(buffer, start, len as usize)?;
+        let offset = self.may_access(pool, buffer, start, len as usize)?;
         let root = buffer.view.at.root;
         Ok(in_place::with_bytes_mut(rt, &pool.shared, &mut self.member, root, offset, len, f))
     }
@@ -80,7 +80,7 @@ impl<B: PoolName> PoolThread<B> {
         ensures left { let o = Root buffer.now.at.root.place in
             IfErr result (λ e. Leaves pool.now o self.old self.new e.0 × (e.1 ≡ f)) }
     {
-        let offset = match self.may_access(buffer, start, len as usize) {
+        let offset = match self.may_access(pool, buffer, start, len as usize) {
             Ok(offset) => offset,
             Err(why) => return Err((TryNo::Refused(why), f)),
         };

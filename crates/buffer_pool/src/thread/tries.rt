@@ -47,8 +47,8 @@ impl<B: PoolName> PoolThread<B> {
         ensures left { let o = Root buffer.now.at.root.place in
             IfErr result (Leaves pool.now o self.old self.new) }
     {
-        let offset = self.may_access(buffer, start, bytes.len())?;
-        let root = buffer.view.at.root;
+        let offset = self.may_access(pool, buffer, start, bytes.len())?;
+        let root = &buffer.view.at.root;
         if access::try_set(&pool.shared, &mut self.member, root, offset, bytes) {
             Ok(())
         } else {
@@ -80,8 +80,8 @@ impl<B: PoolName> PoolThread<B> {
             IfErr result (Leaves pool.now o self.old self.new) }
         ensures unread { OnErr result (out.new ≡ out.old) }
     {
-        let offset = self.may_access(buffer, start, out.len())?;
-        let root = buffer.view.at.root;
+        let offset = self.may_access(pool, buffer, start, out.len())?;
+        let root = &buffer.view.at.root;
         if access::try_get(&pool.shared, &mut self.member, root, offset, out) {
             Ok(())
         } else {
@@ -181,7 +181,7 @@ impl<B: PoolName> PoolThread<B> {
         ensures left { let o = Root buffer.now.at.root.place in
             IfErr result (λ e. Leaves pool.now o self.old self.new e.0 × (e.1 ≡ f)) }
     {
-        let offset = match self.may_access(buffer, start, len as usize) {
+        let offset = match self.may_access(pool, buffer, start, len as usize) {
             Ok(offset) => offset,
             Err(why) => return Err((TryNo::Refused(why), f)),
         };
