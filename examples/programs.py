@@ -119,6 +119,9 @@ BENCHES = [
     ("left 2 300 1 4", None),
     ("left 16 300 1 4", None),
     ("counted 2 400 1 1", 0),
+    # twice each byte that is drawn: 300 blocks of two threads each, whose draws were made apart
+    ("buffers 2 300 1 1", 154_064),
+    ("lone 2 300 1 1", 154_064),
     ("w5batch 2 24 1 1", 0),
     # many times more often than a lane has moves
     ("w4 2 100000 1 1", None),

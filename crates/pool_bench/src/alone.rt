@@ -145,7 +145,9 @@ fn access<W: Wait>(
 {
     match work {
         Workload::Mixed(_) => write_and_read(rt, pool, seat, root, byte),
-        Workload::Left => write_and_read(rt, pool, seat, root, byte),
+        Workload::Left | Workload::Buffers | Workload::Lone => {
+            write_and_read(rt, pool, seat, root, byte)
+        }
         Workload::Checked => count_wrong(rt, pool, seat, root, byte),
         Workload::Passed(_) | Workload::Counted => 0,
         Workload::Plain(_) | Workload::Retained(_) | Workload::Batches(_) | Workload::Places => 0,

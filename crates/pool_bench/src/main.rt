@@ -1,4 +1,5 @@
-//! Measures the shared pool. Without words it does nothing.
+//! Measures the shared pool, by the calls of its seats and through `buffer_pool`. Without words it does
+//! nothing.
 //!
 //! The words are a workload, how many threads work, how many blocks each, 1, how often all is
 //! repeated, and with which number the draws begin, if not 0. Each repetition writes one line: the
@@ -29,6 +30,7 @@ use std::{env, thread};
 
 mod alone;
 mod batches;
+mod buffers;
 mod bytes;
 mod draws;
 mod passed;
@@ -39,11 +41,12 @@ mod runners;
 mod words;
 mod work;
 
+use buffers::measure_buffers;
 use draws::Draws;
 use runner::Runner;
 use runners::{memory_for, runners_of, seats_of};
 use words::{Plan, layout_of, mail_for, plan_of};
-use work::{draws_of, run};
+use work::{Measured, Workload, draws_of, run};
 
 /// The status of words that ask for no measure.
 const WRONG_WORDS: u8 = 2;
@@ -51,7 +54,7 @@ const WRONG_WORDS: u8 = 2;
 /// What the words may be.
 const USAGE: &str = "\
 usage: pool_bench WORKLOAD THREADS BLOCKS 1 REPEATS [START]
-WORKLOAD is w1, w2, w4, w5hit or w5batch, with @ and a size or without, or w3, checked, left or counted
+WORKLOAD is w1, w2, w4, w5hit or w5batch, with @ and a size or without, or w3, buffers, lone, checked, left, counted
 ";
 
 fn main(rt: HostRuntime) -> ExitCode {
@@ -81,21 +84,16 @@ where
         return Ok(false);
     };
     for _ in 0..plan.repeats {
-        let Measured { took, sum, refused } = measure(rt, &plan)?;
+        let Measured { took, sum, refused } = match plan.work {
+            Workload::Buffers | Workload::Lone => measure_buffers(rt, &plan)?,
+            _ => measure(rt, &plan)?,
+        };
         println!(rt;
             "{} {} {} 1 {} 0 {} {}",
             words[0], plan.threads, plan.asked, took, sum, refused
         )?;
     }
     Ok(true)
-}
-
-// One repetition: its nanoseconds, what was read, and what was refused.
-#[derive(Clone, Copy, Debug, Drop)]
-struct Measured {
-    took: u128,
-    sum: u64,
-    refused: u64,
 }
 
 // A pool is opened, all lanes work, and it is closed. The time is that of the work alone.

@@ -94,6 +94,8 @@ fn workload_of(word: &str) -> Option<Workload> {
         "w4" => Some(Workload::Retained(size)),
         "w5hit" => Some(Workload::Plain(size)),
         "w5batch" => Some(Workload::Batches(size)),
+        "buffers" => Some(Workload::Buffers),
+        "lone" => Some(Workload::Lone),
         "checked" => Some(Workload::Checked),
         "left" => Some(Workload::Left),
         "counted" => Some(Workload::Counted),

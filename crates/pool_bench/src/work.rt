@@ -32,6 +32,10 @@ pub enum Workload {
     Checked,
     /// Mixed blocks, of which one in 32 doesn't release its buffer.
     Left,
+    /// Mixed blocks by the calls of `buffer_pool`.
+    Buffers,
+    /// The same with buffers that their thread alone has.
+    Lone,
     /// Mixed blocks whose buffers go to the next lane, in place of their release. It reads the
     /// first four bytes and releases them.
     Passed(Option<u32>),
@@ -83,7 +87,15 @@ impl Tally {
     }
 }
 
-/// All blocks of a plan's workload.
+/// One repetition: its nanoseconds, what was read, and what was refused.
+#[derive(Clone, Copy, Debug, Drop)]
+pub struct Measured {
+    pub took: u128,
+    pub sum: u64,
+    pub refused: u64,
+}
+
+/// All blocks of a plan's workload, by the calls of a seat.
 pub fn run<W: Wait>(
     rt: &W,
     pool: &SharedPool,
@@ -133,7 +145,9 @@ pub fn asked(work: Workload, sizes: &SizeClasses, done: u32, draws: &mut Draws) 
             let size = if done % 8 == 7 { 40 * drawn } else { drawn };
             (size, (draws.next() % 256) as u8)
         }
-        Workload::Left => (16 + draws.next() % 1009, (draws.next() % 256) as u8),
+        Workload::Left | Workload::Buffers | Workload::Lone => {
+            (16 + draws.next() % 1009, (draws.next() % 256) as u8)
+        }
         Workload::Counted => (16 + draws.next() % 1009, (done % 256) as u8),
         Workload::Plain(Some(size)) => (size, 0),
         Workload::Plain(None) => (class_size(sizes, done % 39), 0),
