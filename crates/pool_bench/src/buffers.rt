@@ -5,91 +5,100 @@ use crate::draws::Draws;
 use crate::words::Plan;
 use crate::work::{Measured, Tally, Workload, draws_of};
 use anyhow::anyhow;
-use buffer_pool::{Config, Pool, PoolName, PoolThread, Serve, open};
+use buffer_pool::{Config, Mails, Pool, PoolName, PoolThread, Work, open_in_threads};
 use std::rt::Clock;
 use std::sync::Wait;
 use std::sync::atomic::{AtomicU64, Ordering};
-use std::thread::{Threads, for_each_mut};
+use std::thread::Threads;
 use std::time::Instant;
 
-/// Opens a pool for the threads of a plan, lets all of them work, and closes it. The time is that of
-/// the work alone.
+/// Opens a pool for the threads of a plan, lets all of them work, and closes it. The time is that from
+/// the begin of the first thread's work to the end of the last one's.
 pub fn measure_buffers<R: Threads + Wait + Sync + Clock + AllocGlobal>(
     rt: &R,
     plan: &Plan,
 ) -> anyhow::Result<Measured> {
-    let config = Config::for_threads(plan.threads);
-    match open(rt.alloc(), &config, Blocks { rt, plan: *plan }) {
-        Ok(measured) => measured,
-        Err((no, _blocks)) => Err(anyhow!("no pool was opened: {no:?}")),
+    let blocks = Blocks::new(*plan, Instant::now(rt)?);
+    match open_in_threads(rt, rt.alloc(), &Config::for_threads(plan.threads), &blocks) {
+        Ok(_closed) => blocks.measured(),
+        Err(no) => Err(anyhow!("no pool was closed: {no:?}")),
     }
 }
 
-// What is done with the pool.
+// What the threads work, and what all of it came to. Times are nanoseconds since the origin.
 #[derive(Drop)]
-struct Blocks<'a, R: Threads + Wait + Sync + Clock + AllocGlobal> {
-    rt: &'a R,
+struct Blocks {
     plan: Plan,
+    origin: Instant,
+    begun: AtomicU64,
+    ended: AtomicU64,
+    // how often the clock couldn't be read
+    lost: AtomicU64,
+    sum: AtomicU64,
+    refused: AtomicU64,
 }
 
-impl<'a, R: Threads + Wait + Sync + Clock + AllocGlobal> Serve for Blocks<'a, R> {
-    type Out = anyhow::Result<Measured>;
-
-    fn serve<B: PoolName + Send + Sync>(
-        self,
-        pool: Pool<B>,
-        mut threads: Vec<PoolThread<B>>,
-    ) -> anyhow::Result<Measured> {
-        let Blocks { rt, plan } = self;
-        let start = Instant::now(rt);
-        let Tally { sum, refused } = work_all(rt, &pool, &plan, threads.as_mut_slice());
-        let end = Instant::now(rt);
-        if let Err(back) = pool.close(rt.alloc(), threads) {
-            let why = back.why;
-            back.leave();
-            return Err(anyhow!("no pool was closed: {why:?}"));
+impl Blocks {
+    fn new(plan: Plan, origin: Instant) -> Blocks {
+        Blocks {
+            plan,
+            origin,
+            begun: AtomicU64::new(u64::MAX),
+            ended: AtomicU64::new(0),
+            lost: AtomicU64::new(0),
+            sum: AtomicU64::new(0),
+            refused: AtomicU64::new(0),
         }
-        let took = end?.saturating_duration_since(start?).as_nanos();
-        Ok(Measured { took, sum, refused })
+    }
+
+    // The time by now, which `of` has where it is the least or the most.
+    fn note<R: Clock>(&self, rt: &R, of: &AtomicU64, is_begin: bool) {
+        let Ok(now) = Instant::now(rt) else {
+            self.lost.fetch_add(1, Ordering::SeqCst);
+            return;
+        };
+        let nanoseconds = now.saturating_duration_since(self.origin).as_nanos() as u64;
+        if is_begin {
+            of.fetch_min(nanoseconds, Ordering::SeqCst);
+        } else {
+            of.fetch_max(nanoseconds, Ordering::SeqCst);
+        }
+    }
+
+    // What all threads came to.
+    fn measured(&self) -> anyhow::Result<Measured> {
+        if self.lost.load(Ordering::SeqCst) > 0 {
+            return Err(anyhow!("the clock could not be read"));
+        }
+        let begun = self.begun.load(Ordering::SeqCst);
+        let ended = self.ended.load(Ordering::SeqCst);
+        Ok(Measured {
+            took: ended.saturating_sub(begun) as u128,
+            sum: self.sum.load(Ordering::SeqCst),
+            refused: self.refused.load(Ordering::SeqCst),
+        })
     }
 }
 
-// All threads at work at once. The answer is what their blocks came to.
-fn work_all<B: PoolName + Send + Sync, R: Threads + Wait + Sync>(
-    rt: &R,
-    pool: &Pool<B>,
-    plan: &Plan,
-    threads: &mut [PoolThread<B>],
-) -> Tally {
-    let Plan {
-        work,
-        blocks,
-        start,
-        ..
-    } = *plan;
-    let drawn = draws_of(work) * blocks as u64;
-    let sum = AtomicU64::new(0);
-    let refused = AtomicU64::new(0);
-    let many = threads.len().max(1);
-    for_each_mut(
-        rt,
-        threads,
-        many,
-        &|lane: usize, me: &mut PoolThread<B>| {
-            let mut draws = Draws::new(start);
-            draws.skip((lane as u64).wrapping_mul(drawn));
-            let tally = if work == Workload::Lone {
-                run_lone(rt, pool, blocks, draws, me)
-            } else {
-                run_buffers(rt, pool, blocks, draws, me)
-            };
-            sum.fetch_add(tally.sum, Ordering::SeqCst);
-            refused.fetch_add(tally.refused, Ordering::SeqCst);
-        },
-    );
-    Tally {
-        sum: sum.into_inner(),
-        refused: refused.into_inner(),
+impl<R: Wait + Clock> Work<R> for Blocks {
+    fn work<B: PoolName>(&self, rt: &R, pool: &Pool<B>, _mails: &Mails<B>, me: &mut PoolThread<B>) {
+        let Plan {
+            work,
+            blocks,
+            start,
+            ..
+        } = self.plan;
+        let mut draws = Draws::new(start);
+        draws.skip((me.number() as u64).wrapping_mul(draws_of(work) * blocks as u64));
+        self.note(rt, &self.begun, true);
+        let tally = if work == Workload::Lone {
+            run_lone(rt, pool, blocks, draws, me)
+        } else {
+            run_buffers(rt, pool, blocks, draws, me)
+        };
+        self.note(rt, &self.ended, false);
+        self.sum.fetch_add(tally.sum, Ordering::SeqCst);
+        self.refused.fetch_add(tally.refused, Ordering::SeqCst);
     }
 }
 
