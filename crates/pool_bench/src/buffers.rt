@@ -32,7 +32,7 @@ struct Blocks {
     origin: Instant,
     begun: AtomicU64,
     ended: AtomicU64,
-    // how often the clock couldn't be read
+    // how often the time couldn't be told
     lost: AtomicU64,
     sum: AtomicU64,
     refused: AtomicU64,
@@ -51,13 +51,20 @@ impl Blocks {
         }
     }
 
-    // The time by now, which `of` has where it is the least or the most.
-    fn note<R: Clock>(&self, rt: &R, of: &AtomicU64, is_begin: bool) {
+    // The time by now, where it can be told.
+    fn time<R: Clock>(&self, rt: &R) -> Option<u64> {
         let Ok(now) = Instant::now(rt) else {
+            return None;
+        };
+        u64::try_from(now.saturating_duration_since(self.origin).as_nanos()).ok()
+    }
+
+    // The time by now, which `of` has then where it is the least or the most.
+    fn note<R: Clock>(&self, rt: &R, of: &AtomicU64, is_begin: bool) {
+        let Some(nanoseconds) = self.time(rt) else {
             self.lost.fetch_add(1, Ordering::SeqCst);
             return;
         };
-        let nanoseconds = now.saturating_duration_since(self.origin).as_nanos() as u64;
         if is_begin {
             of.fetch_min(nanoseconds, Ordering::SeqCst);
         } else {
@@ -68,7 +75,7 @@ impl Blocks {
     // What all threads came to.
     fn measured(&self) -> anyhow::Result<Measured> {
         if self.lost.load(Ordering::SeqCst) > 0 {
-            return Err(anyhow!("the clock could not be read"));
+            return Err(anyhow!("the time could not be told"));
         }
         let begun = self.begun.load(Ordering::SeqCst);
         let ended = self.ended.load(Ordering::SeqCst);
